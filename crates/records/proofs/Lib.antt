@@ -1,0 +1,9 @@
+pub mod CommandLaws
+pub mod Countings
+pub mod HeaderLaws
+pub mod LittleEndianLaws
+pub mod LooksLaws
+pub mod PageLaws
+pub mod PageTheorems
+pub mod Pieces
+pub mod SectorLaws

@@ -1,0 +1,7 @@
+use borrow.Author.Needs.{needs}
+use Rattle.records.specs.Buffers.{written}
+use Rattle.records.proofs.buffers.RecordBuffer.new.Needs as need
+
+pub returns : need.returns
+unfolding written
+returns c = search needs
