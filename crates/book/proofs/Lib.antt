@@ -1,0 +1,4 @@
+pub mod Fairs
+pub mod Laws
+pub mod Meetings
+pub mod Sounds

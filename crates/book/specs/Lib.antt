@@ -1,0 +1,4 @@
+pub mod Fairness
+pub mod Matching
+pub mod Means
+pub mod Steps
