@@ -1,0 +1,4 @@
+pub mod Choices
+pub mod Layouts
+pub mod Places
+pub mod Slots
