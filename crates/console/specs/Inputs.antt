@@ -1,0 +1,17 @@
+-- A line that comes byte by byte.
+use mathlib.Core.Path.{_≡_}
+use mathlib.Core.Bool.{true, cond}
+use mathlib.Core.List.{List, [], _∷_, _++_}
+use Prim.Native.Nat.{ℕ}
+use lib.ListN.{take}
+use lib.Dec.{ltb}
+use Rattle.console.specs.declared.input.LineBuffer.{LineBuffer}
+
+-- the bytes that are kept
+abbrev pub held : LineBuffer → List ℕ
+held b = take (b .len) (b .bytes)
+
+-- a byte comes: it is kept where fewer than 255 are, else the line is too long
+pub record Pushed (before : LineBuffer) (byte : ℕ) (after : LineBuffer) : Type 0 where
+  pub bytes : held after ≡ cond (ltb (before .len) 255) (held before ++ byte ∷ []) (held before)
+  pub long : after .long ≡ cond (ltb (before .len) 255) (before .long) true

@@ -1,0 +1,3 @@
+pub mod Days
+pub mod Inputs
+pub mod Spellings
