@@ -1,0 +1,4 @@
+pub mod Images
+pub mod Changes
+pub mod Landings
+pub mod Meanings
