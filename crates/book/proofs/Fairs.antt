@@ -6,13 +6,11 @@ use mathlib.Core.Bool.{Bool, true, false, cond, _&&_}
 use Prim.Native.Nat.{ℕ, _+_, _-_, _<_, _≤_}
 use native.Mathlib.Omega.{arith}
 use lib.ListN.{length, take, drop}
-use lib.Seq.{take-append-seam}
 use lib.Dec.{ltb, eqb}
 use borrow.Author.Needs.{needs}
 use borrow.Author.Tests.{ltb-true, eqb-true, eqb-false, eq-eqb, ne-eqb}
 use Rattle.std.specs.Vec.{listOf, made}
 use Rattle.std.specs.declared.result.Result.{Result}
-use Rattle.std.specs.declared.result.Result.the-variants.{Ok, Err}
 use Rattle.std.proofs.shelf.Tests.{and-parts}
 use Rattle.std.proofs.shelf.Lists.{append-nil}
 use Rattle.records.specs.Commands.{good, within, in-range}
@@ -25,24 +23,18 @@ use Rattle.records.specs.declared.notices.Notice.{Notice}
 use Rattle.records.specs.declared.refusals.Refusal.{Refusal}
 use Rattle.market.specs.declared.orders.Order.{Order}
 use Rattle.market.specs.Lists.{all, pairwise, across, placed, In}
-use Rattle.market.specs.Orders.{before, other, kept, differ, less, rested, dropped}
+use Rattle.market.specs.Orders.{before, other, accepts, below, total, kept, differ, less, rested, dropped}
 use Rattle.market.specs.Resting.{Resting, arriving}
 use Rattle.market.specs.Steps.{Applied}
-use Rattle.market.proofs.ListLaws.{all-weaken}
+use Rattle.market.proofs.ListLaws.{all-weaken, all-in}
 use Rattle.market.proofs.Sounds.{SideSound, Sound, all-new}
-use Rattle.market.proofs.StepLaws.{stepped-ind}
-use Rattle.book.specs.Matching.{accepts, trades, fill-with, met, Met, traded}
-use Rattle.book.specs.Steps.{below, Valid, entered, acted, book-step}
-use Rattle.book.specs.Fairness.{side-of, LeftOf, FairFill, total, open-lots, Entry, Uncrossed, Fair}
+use Rattle.market.proofs.StepLaws.{stepped-ind, answer-tells}
+use Rattle.book.specs.Matching.{trades, fill-with, met, Met, traded}
+use Rattle.book.specs.Steps.{Valid, entered, acted, book-step}
+use Rattle.book.specs.Fairness.{side-of, LeftOf, FairFill, open-lots, Entry, Uncrossed, Fair}
 use Rattle.book.proofs.Meetings.{met-ind}
 use Rattle.book.proofs.Sounds.{book-fact, met-taker, traded-rows}
 use Rattle.book.proofs.Laws.{keeps}
-
-pub all-in : {X : Type 0} (p : X → Bool) (x : X) (xs : List X) → In x xs → all p xs ≡ true → p x ≡ true
-all-in p x [] i h = absurd i
-all-in p x (y ∷ ys) i h =
-    let a = and-parts (p y) (all p ys) h in
-    ⊎-elim (λ e. ap p e ∙ a .0) (λ j. all-in p x ys j (a .1)) i
 
 in-append : {X : Type 0} (x : X) (xs ys : List X) → In x (xs ++ ys) → In x xs ⊎ In x ys
 in-append x [] ys i = inr i
@@ -273,8 +265,4 @@ fair h Cross v = uncrossed _ (keeps h Cross v)
 -- what an answer tells of the step, it tells of what is fair
 pub fair-answer : (h : Resting) (c : Command) (xs : List Notice) (h′ : Resting) (ys : List Notice) (r : Result ℕ Refusal) → Valid h →
     Applied h (book-step h c) xs h′ ys r → made r (λ n. Fair h c h′ (take n ys))
-fair-answer h c xs h′ ys (Ok n) v a =
-    let t = a .1 in
-    let front : take n ys ≡ book-step h c .1 = rw (t .number, t .list) (take-append-seam (book-step h c .1) _) in
-    subst (λ ns. Fair h c h′ ns) (sym front) (subst (λ s. Fair h c s (book-step h c .1)) (sym (t .state)) (fair h c v))
-fair-answer h c xs h′ ys (Err e) v a = tt
+fair-answer h c xs h′ ys r v a = answer-tells (Fair h c) h (book-step h c) xs h′ ys r (fair h c v) a

@@ -7,7 +7,10 @@ use native.Mathlib.Omega.{arith}
 use lib.ListN.{length}
 use lib.Dec.{ltb, eqb}
 use Rattle.std.specs.Vec.{listOf}
+use Rattle.std.specs.declared.option.Option.the-variants.{Some}
+use Rattle.std.proofs.shelf.Tests.{and-parts}
 use Rattle.records.specs.Commands.{good}
+use Rattle.records.specs.LittleEndian.{Bytes}
 use Rattle.records.specs.declared.commands.Side.{Side}
 use Rattle.records.specs.declared.commands.Side.the-variants.{Buy, Sell}
 use Rattle.records.specs.declared.commands.Command.{Command}
@@ -15,16 +18,19 @@ use Rattle.records.specs.declared.commands.Command.the-variants.{Enter, Cancel,
 use Rattle.records.specs.declared.notices.Notice.{Notice}
 use Rattle.market.specs.declared.orders.Order.{Order}
 use Rattle.market.specs.Lists.{all}
-use Rattle.market.specs.Orders.{less, rested, dropped}
-use Rattle.market.specs.Resting.{Resting, arriving}
+use Rattle.market.specs.Orders.{less, rested}
+use Rattle.market.specs.Resting.{Resting, sound, arriving}
 use Rattle.market.specs.Steps.{uncounted}
 use Rattle.market.proofs.ListLaws.{true-and}
-use Rattle.market.proofs.Sounds.{SideSound, Sound}
-use Rattle.market.proofs.StepLaws.{stepped-ind, stepped-counts, all-append, uncounted-of, withdrawn-few, withdrawn-uncounted}
+use Rattle.market.proofs.Sounds.{SideSound, Sound, arriving-kept}
+use Rattle.market.proofs.StepLaws.{stepped-ind, stepped-counts, all-append, uncounted-of, rested-uncounted, withdrawn-few, withdrawn-uncounted}
 use Rattle.book.specs.Matching.{fill-with, met, Met, traded}
-use Rattle.book.specs.Steps.{Valid, entered, acted, book-step}
+use Rattle.body.specs.Layout.{body}
+use Rattle.body.specs.Loads.{loads}
+use Rattle.body.proofs.Loading.{loads-back, loads-only, body-length, body-bytes}
+use Rattle.book.specs.Steps.{book-sound, Valid, entered, acted, book-step}
 use Rattle.book.proofs.Meetings.{met-ind}
-use Rattle.book.proofs.Sounds.{book-fact, arriving-kept, entered-valid, passed-valid, withdrawn-valid, traded-few, met-taker}
+use Rattle.book.proofs.Sounds.{book-fact, entered-valid, passed-valid, withdrawn-valid, traded-few, met-taker}
 
 acted-valid : (h : Resting) (c : Command) → Valid h → h .last < 1_000_000_000_000 → good c ≡ true → Valid (acted h c .0)
 acted-valid h (Enter m s p q) v l g = entered-valid h s (arriving h m p q) refl (arriving-kept h m p q g) l v
@@ -66,12 +72,6 @@ met-uncounted s n = met-ind s (λ o rs m. o .number .0 ≡ n → all (uncounted 
     (λ o r rs t l e. true-and (uncounted n (fill-with s o r (o .lots .0))) true (fill-uncounted s n o r (o .lots .0) e) refl)
     (λ o r rs m t l k e. true-and (uncounted n (fill-with s o r (r .lots .0))) (all (uncounted n) (m .fills)) (fill-uncounted s n o r (r .lots .0) e) (k e))
 
-rested-uncounted : (s : Side) (n : ℕ) (o : Order) (xs : List Order) → o .number .0 ≡ n → all (uncounted n) (listOf (rested s o xs .1)) ≡ true
-rested-uncounted s n o xs e = way (ltb (length xs) 32) refl where
-  way : (b : Bool) → ltb (length xs) 32 ≡ b → all (uncounted n) (listOf (rested s o xs .1)) ≡ true
-  way true f = simp f
-  way false f = simp f (true-and (uncounted n (dropped o)) true (uncounted-of n (o .number .0) e) refl)
-
 traded-uncounted : (s : Side) (n : ℕ) (o : Order) (own opposite : List Order) → o .number .0 ≡ n → all (uncounted n) (traded s o own opposite .notices) ≡ true
 traded-uncounted s n o own opposite e = way (eqb (met s o opposite .taker .lots .0) 0) refl where
   way : (b : Bool) → eqb (met s o opposite .taker .lots .0) 0 ≡ b → all (uncounted n) (traded s o own opposite .notices) ≡ true
@@ -89,3 +89,16 @@ uncounts h c = stepped-ind acted h c (λ t. all (uncounted (h .last + 1)) (t .1)
 
 pub bounded : (h : Resting) → Valid h → h .last ≤ 1_000_000_000_000
 bounded h v = book-fact h v .0 .bounded
+
+-- bodies
+pub plain : (h : Resting) → Bytes (body h)
+plain = body-bytes
+
+pub sized : (h : Resting) → Valid h → length (body h) ≡ 1536
+sized h v = body-length h (book-fact h v .0)
+
+pub back : (h : Resting) → Valid h → loads book-sound (body h) ≡ Some h
+back = loads-back book-sound (λ h v. and-parts (sound h) _ v .0)
+
+pub only : (b : List ℕ) (h : Resting) → loads book-sound b ≡ Some h → Valid h × (body h ≡ b)
+only = loads-only book-sound (λ h v. and-parts (sound h) _ v .0)

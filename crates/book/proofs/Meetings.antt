@@ -44,10 +44,6 @@ rank-less : (s : Side) (r : Order) (m : ℕ) (rs : List Order) → pairwise (bef
 rank-less Buy r m rs h = h
 rank-less Sell r m rs h = h
 
--- what a read past the end would give
-abbrev pub blank : Order
-blank = record { number = record { 0 = 0 }; member = record { 0 = 0 }; price = record { 0 = 0 }; lots = record { 0 = 0 } }
-
 -- a fill with the first row
 module _ (s : Side) (o r : Order) (rs : List Order) (t : trades s o r ≡ true) (q : pairwise (before (other s)) (r ∷ rs) ≡ true) where
   some-lots : 0 < o .lots .0

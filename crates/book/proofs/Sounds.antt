@@ -10,24 +10,22 @@ use borrow.Author.Needs.{needs}
 use borrow.Author.Tests.{ltb-true, eqb-false}
 use Rattle.std.specs.Vec.{listOf}
 use Rattle.std.proofs.shelf.Tests.{and-parts}
-use Rattle.records.specs.Commands.{good, in-range}
+use Rattle.records.specs.Commands.{good}
 use Rattle.records.specs.declared.numbers.CommandNumber.{CommandNumber}
 use Rattle.records.specs.declared.numbers.Member.{Member}
-use Rattle.records.specs.declared.numbers.Price.{Price}
-use Rattle.records.specs.declared.numbers.Lots.{Lots}
 use Rattle.records.specs.declared.commands.Side.{Side}
 use Rattle.records.specs.declared.commands.Side.the-variants.{Buy, Sell}
 use Rattle.records.specs.declared.notices.Notice.{Notice}
 use Rattle.market.specs.declared.orders.Order.{Order}
 use Rattle.market.specs.Lists.{all, pairwise, across, placed}
-use Rattle.market.specs.Orders.{before, other, differ, kept, less, rested, dropped, is-of}
-use Rattle.market.specs.Resting.{Resting, sound, arriving, passed, withdrawn}
+use Rattle.market.specs.Orders.{before, other, accepts, below, differ, kept, less, rested, dropped, is-of}
+use Rattle.market.specs.Resting.{Resting, sound, passed, withdrawn}
 use Rattle.market.specs.Steps.{uncounted}
 use Rattle.market.proofs.ListLaws.{true-and, all-weaken, all-placed, across-swap, across-without}
 use Rattle.market.proofs.Sounds.{SideSound, Sound, sound-fact, sound-test, side-up, side-tail, side-less, side-placed, all-new, differ-swap, passed-sound, withdrawn-sound}
-use Rattle.book.specs.Matching.{accepts, trades, fill-with, met, Met, after-fill, settled, traded, Sides, Traded}
+use Rattle.book.specs.Matching.{trades, fill-with, met, Met, after-fill, settled, traded, Sides, Traded}
 use Rattle.book.specs.Fairness.{LeftOf}
-use Rattle.book.specs.Steps.{below, book-sound, Valid, entered}
+use Rattle.book.specs.Steps.{book-sound, Valid, entered}
 use Rattle.book.proofs.Meetings.{met-ind, met-few}
 
 -- the rows that a meeting leaves are sound
@@ -174,10 +172,6 @@ entered-valid h Sell o new k l v =
       separate = across-swap differ differ differ-swap (t .own) (t .opposite) (sides-separate Sell o (h .sells) (h .buys) (h .last) new k (f .0 .sells) (f .0 .buys) (across-swap differ differ differ-swap (h .buys) (h .sells) (f .0 .separate)));
     })
     (across-swap (beyond Sell) below (λ x y e. e) (t .own) (t .opposite) (sides-beyond Sell o (h .sells) (h .buys) (h .last) new k (f .0 .sells) (f .0 .buys) (across-swap below (beyond Sell) (λ x y e. e) (h .buys) (h .sells) (f .1))))
-
--- an order that arrives keeps its ranges, under its own number
-pub arriving-kept : (h : Resting) (m : Member) (p : Price) (l : Lots) → in-range m p l ≡ true → kept (h .last + 1) (arriving h m p l) ≡ true
-arriving-kept h m p l g = true-and (in-range m p l) _ g (search needs)
 
 -- what the code leaves of the two sides is the state after the order
 module _ (h : Resting) (o : Order) (new : o .number .0 ≡ h .last + 1) (k : kept (h .last + 1) o ≡ true) (l : h .last < 1_000_000_000_000) (v : Valid h)

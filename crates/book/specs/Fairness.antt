@@ -14,9 +14,9 @@ use Rattle.records.specs.declared.notices.Kind.the-variants.{Fill, Dropped}
 use Rattle.records.specs.declared.notices.Notice.{Notice}
 use Rattle.market.specs.declared.orders.Order.{Order}
 use Rattle.market.specs.Lists.{In}
-use Rattle.market.specs.Orders.{before, other}
+use Rattle.market.specs.Orders.{before, other, accepts, total}
 use Rattle.market.specs.Resting.{Resting, arriving}
-use Rattle.book.specs.Matching.{accepts, fill-with}
+use Rattle.book.specs.Matching.{fill-with}
 
 abbrev pub side-of : Side → Resting → List Order
 side-of Buy h = h .buys
@@ -42,11 +42,6 @@ pub record FairFill (s : Side) (o : Order) (opposite : List Order) (ns : List No
   pub within : v .lots .0 ≤ resting .lots .0
   -- and whoever stood before that order was filled whole by the same command
   pub first : (q : Order) → In q opposite → before (other s) q resting ≡ true → In (fill-with s o q (q .lots .0)) ns
-
--- the lots of all notices
-abbrev pub total : List Notice → ℕ
-total [] = 0
-total (v ∷ vs) = v .lots .0 + total vs
 
 -- the lots that rest of the order with this number
 abbrev pub open-lots : ℕ → List Order → ℕ

@@ -11,12 +11,7 @@ use Rattle.records.specs.declared.commands.Side.the-variants.{Buy, Sell}
 use Rattle.records.specs.declared.notices.Notice.{Notice}
 use Rattle.market.specs.declared.orders.Order.{Order}
 use Rattle.market.specs.Lists.{pairwise, over}
-use Rattle.market.specs.Orders.{before, other, less, fill, rested}
-
--- an order of side s at price p accepts the resting price q
-abbrev pub accepts : Side → ℕ → ℕ → Bool
-accepts Buy p q = leb q p
-accepts Sell p q = leb p q
+use Rattle.market.specs.Orders.{before, other, accepts, less, fill, rested}
 
 -- the entering order o and the resting order r trade
 abbrev pub trades : Side → Order → Order → Bool

@@ -3,7 +3,6 @@ use mathlib.Core.Path.{_≡_}
 use mathlib.Core.List.{List, []}
 use mathlib.Core.Bool.{Bool, true, _&&_}
 use Prim.Native.Nat.{ℕ, _+_}
-use lib.Dec.{ltb}
 use Rattle.records.specs.declared.commands.Side.{Side}
 use Rattle.records.specs.declared.commands.Side.the-variants.{Buy, Sell}
 use Rattle.records.specs.declared.commands.Command.{Command}
@@ -11,12 +10,9 @@ use Rattle.records.specs.declared.commands.Command.the-variants.{Enter, Cancel,
 use Rattle.records.specs.declared.notices.Notice.{Notice}
 use Rattle.market.specs.declared.orders.Order.{Order}
 use Rattle.market.specs.Lists.{across}
+use Rattle.market.specs.Orders.{below}
 use Rattle.market.specs.Resting.{Resting, sound, arriving, passed, withdrawn, stepped}
 use Rattle.book.specs.Matching.{traded}
-
--- a buy and a sell that stay apart in price
-abbrev pub below : Order → Order → Bool
-below b s = ltb (b .price .0) (s .price .0)
 
 -- a book is sound as every market is, and its buys stay below its sells
 abbrev pub book-sound : Resting → Bool

@@ -8,11 +8,15 @@ ghost use Rattle.records.specs.Commands.{in-range};
 ghost use Rattle.market.specs.Resting.{Resting, nothing, arriving, passed, withdrawn};
 ghost use Rattle.market.specs.Steps.{Taken, Applied};
 ghost use Rattle.market.specs.Means.{rows};
+ghost use Rattle.body.specs.Layout.{body as resting-body};
+ghost use Rattle.body.specs.Loads.{loads as body-loads};
 ghost use Rattle.book.specs.Fairness.{Fair};
-ghost use Rattle.book.specs.Steps.{entered, book-step, Valid};
+ghost use Rattle.book.specs.Steps.{entered, book-sound, book-step, Valid};
 ghost use Rattle.book.specs.Means.{book-state};
 use crate::matching::trade;
 use crate::shape::Book;
+use body::reading::read_body;
+use body::writing::write_body;
 use market::interface::Market;
 use market::orders::Order;
 use market::resting::RestingOrders;
@@ -147,6 +151,10 @@ pub impl Market for Book as BookMarket {
 
     ghost step = { book-step };
 
+    ghost body = { resting-body };
+
+    ghost loads = { body-loads book-sound };
+
     fn code_number() -> u16 {
         Self::CODE
     }
@@ -170,5 +178,21 @@ pub impl Market for Book as BookMarket {
         ensures fair { λ r. ⌜ made r (λ n. Fair (book-state (now (self .entry))) (now (command .entry)) (book-state (now (self .exit))) (take n (now (list .exit)))) ⌝ }
     {
         self.advance(command, list)
+    }
+
+    fn save(&self, out: &mut [u8; 1536]) {
+        write_body(self.resting.last, self.buys(), self.sells(), out);
+    }
+
+    fn load(&mut self, from: &[u8; 1536]) -> Result<(), Refusal> {
+        let image = match read_body(from) {
+            Some(image) => image,
+            None => return Err(Refusal::BadBody),
+        };
+        if !image.is_sound() || !image.is_apart() {
+            return Err(Refusal::BadBody);
+        }
+        image.restore(&mut self.resting);
+        Ok(())
     }
 }

@@ -4,6 +4,7 @@
 //! Trusted: the toolchain and the C library.
 use jobs::faults::JobFault;
 use jobs::faults::JobFaultDisplay;
+use jobs::matching::MarketKind;
 use jobs::matching::match_orders;
 use jobs::paging::page_orders;
 use std::alloc::AllocError;
@@ -13,9 +14,9 @@ use std::fmt;
 use std::io;
 
 const USAGE: &str =
-    "usage: hammerbuff match                match the commands of standard input in a book
-       hammerbuff page --sectors N     write them as pages over a ring of N sectors, and read them back
-       hammerbuff --help               print this page
+    "usage: hammerbuff match [--market book|call]  match the commands of standard input in a book (or a call)
+       hammerbuff page --sectors N            write them as pages over a ring of N sectors, and read them back
+       hammerbuff --help                      print this page
 
 One command a line:
   enter MEMBER buy|sell PRICE LOTS
@@ -26,7 +27,7 @@ refused with its reason, and the run goes on.";
 
 enum Job {
     Help,
-    Match,
+    Match { market: MarketKind },
     Page { sectors: usize },
 }
 
@@ -75,7 +76,18 @@ fn unknown(heap: Global, word: &str) -> Result<Job, Fault> {
 // The words after `match`.
 fn match_job(heap: Global, options: &[String]) -> Result<Job, Fault> {
     match options {
-        [] => Ok(Job::Match),
+        [] => Ok(Job::Match {
+            market: MarketKind::Book,
+        }),
+        [option, name] if option.as_str() == "--market" => match name.as_str() {
+            "book" => Ok(Job::Match {
+                market: MarketKind::Book,
+            }),
+            "call" => Ok(Job::Match {
+                market: MarketKind::Call,
+            }),
+            word => unknown(heap, word),
+        },
         [word, ..] => unknown(heap, word.as_str()),
     }
 }
@@ -110,7 +122,7 @@ fn run(rt: &LibcRuntime) -> Result<(), Fault> {
     let words: Vec<String> = env::args(rt)?.skip(1).collect(heap)?;
     match job_of(heap, &words)? {
         Job::Help => println!(rt, "{USAGE}")?,
-        Job::Match => match_orders(rt)?,
+        Job::Match { market } => match_orders(rt, market)?,
         Job::Page { sectors } => page_orders(rt, sectors)?,
     }
     Ok(())

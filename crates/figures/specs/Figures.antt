@@ -15,6 +15,7 @@ use Rattle.market.specs.Orders.{fill}
 use Rattle.market.specs.Resting.{Resting, nothing}
 use Rattle.journal.specs.Places.{size-good, page-place}
 use Rattle.book.specs.Steps.{book-step}
+use Rattle.call.specs.Steps.{call-step}
 
 abbrev pub enter : ℕ → Side → ℕ → ℕ → Command
 enter m s p l = Enter (record { 0 = m }) s (record { 0 = p }) (record { 0 = l })
@@ -25,6 +26,10 @@ order n m p l = record { number = record { 0 = n }; member = record { 0 = m }; p
 -- a fresh book after a buy of 20 lots at 104 by member 1
 abbrev pub one-buy : Resting
 one-buy = book-step nothing (enter 1 Buy 104 20) .0
+
+-- a fresh call auction after three orders
+abbrev pub three-orders : Resting
+three-orders = call-step (call-step (call-step nothing (enter 1 Buy 105 10) .0) (enter 2 Buy 101 5) .0) (enter 3 Sell 101 10) .0
 
 pub record Figures : Type 0 where
   -- a cross is the bytes 04 00 0D 00
@@ -44,3 +49,6 @@ pub record Figures : Type 0 where
   pub rests : book-step one-buy (enter 2 Sell 103 5) .0 ≡ record { last = 2; buys = order 1 1 104 15 ∷ []; sells = [] }
   -- a cancel of order 1 by another member gives no notice, and the order stays
   pub not-his : book-step one-buy (Cancel (record { 0 = 2 }) (record { 0 = 1 })) ≡ (record { last = 2; buys = order 1 1 104 20 ∷ []; sells = [] }, [])
+  -- call: buys of 10 lots at 105 and 5 at 101, a sell of 10 at 101, then a cross: 10 lots change hands at 101
+  pub clears : call-step three-orders Cross .1 ≡ fill (record { 0 = 4 }) (order 1 1 105 10) (order 3 3 101 10) (record { 0 = 101 }) 10 ∷ []
+  pub waits : call-step three-orders Cross .0 ≡ record { last = 4; buys = order 2 2 101 5 ∷ []; sells = [] }

@@ -22,6 +22,8 @@ pub fn figures_stand() -> RecordBuffer
 mod tests {
     use book::ledger::BookMarket;
     use book::shape::Book;
+    use call::ledger::CallMarket;
+    use call::shape::CallAuction;
     use journal::layouts::Layout;
     use market::interface::Market;
     use records::commands::Command;
@@ -101,6 +103,26 @@ mod tests {
         check(book.buys().len() == 1)?;
         check_eq(book.buys()[0].lots.0, 15)?;
         check_eq(book.sells().len(), 0)
+    }
+
+    #[test]
+    fn a_cross_clears(rt: LibcRuntime) -> Result<(), Fail> {
+        let mut list = [blank(); 64];
+        let mut call = CallAuction::new(rt.alloc())?;
+        check(call.apply(&enter(1, Side::Buy, 105, 10), &mut list).is_ok())?;
+        check(call.apply(&enter(2, Side::Buy, 101, 5), &mut list).is_ok())?;
+        check(
+            call.apply(&enter(3, Side::Sell, 101, 10), &mut list)
+                .is_ok(),
+        )?;
+        let Ok(n) = call.apply(&Command::Cross, &mut list) else {
+            return Err(Fail::new("the cross is refused"));
+        };
+        check_eq(n, 1)?;
+        check_eq(list[0].price.0, 101)?;
+        check_eq(list[0].lots.0, 10)?;
+        check_eq(call.buys().len(), 1)?;
+        check_eq(call.sells().len(), 0)
     }
 
     #[test]

@@ -8,6 +8,8 @@ use crate::reading::range_fault;
 use crate::reading::take_lines;
 use book::ledger::BookMarket;
 use book::shape::Book;
+use call::ledger::CallMarket;
+use call::shape::CallAuction;
 use console::day::Day;
 use console::words::LineFault;
 use market::interface::Market;
@@ -37,6 +39,23 @@ impl Shown for Book as BookShown {
     fn resting_sells(&self) -> &[Order] {
         self.sells()
     }
+}
+
+impl Shown for CallAuction as CallShown {
+    fn resting_buys(&self) -> &[Order] {
+        self.buys()
+    }
+
+    fn resting_sells(&self) -> &[Order] {
+        self.sells()
+    }
+}
+
+/// The markets that commands can be matched in.
+#[derive(Clone, Copy)]
+pub enum MarketKind {
+    Book,
+    Call,
 }
 
 impl<M: Market> Taker for Day<M> as DayTaker {
@@ -77,6 +96,46 @@ fn print_side(rt: &LibcRuntime, side: Side, orders: &[Order]) -> Result<(), JobF
     Ok(())
 }
 
+fn is_same(a: &Order, b: &Order) -> bool {
+    a.number.0 == b.number.0
+        && a.member.0 == b.member.0
+        && a.price.0 == b.price.0
+        && a.lots.0 == b.lots.0
+}
+
+fn are_same(a: &[Order], b: &[Order]) -> bool {
+    if a.len() != b.len() {
+        return false;
+    }
+    for (x, y) in a.iter().zip(b.iter()) {
+        if !is_same(x, y) {
+            return false;
+        }
+    }
+    true
+}
+
+// Saves the market's body, loads it into a fresh market, and compares the two.
+fn print_body<M: Market + Shown + Drop>(rt: &LibcRuntime, market: &M) -> Result<(), JobFault> {
+    let mut body = [0; 1536];
+    market.save(&mut body);
+    let mut copy = M::new(rt.alloc())?;
+    if let Err(reason) = copy.load(&body) {
+        let reason = reason.number();
+        println!(rt, "body refused {reason}")?;
+        return Ok(());
+    }
+    let same = market.last().0 == copy.last().0
+        && are_same(market.resting_buys(), copy.resting_buys())
+        && are_same(market.resting_sells(), copy.resting_sells());
+    if same {
+        println!(rt, "body saved and loaded: same book")?;
+    } else {
+        println!(rt, "body saved and loaded: another book")?;
+    }
+    Ok(())
+}
+
 // A day of commands from standard input, and what rests at its end.
 fn run_day<M: Market + Shown + Drop>(rt: &LibcRuntime, name: &str) -> Result<(), JobFault> {
     let mut day: Day<M> = Day::new(rt.alloc())?;
@@ -89,10 +148,13 @@ fn run_day<M: Market + Shown + Drop>(rt: &LibcRuntime, name: &str) -> Result<(),
         rt,
         "done: {commands} commands, {notices} notices, {refused} lines refused"
     )?;
-    Ok(())
+    print_body(rt, &day.market)
 }
 
-/// Matches the commands of standard input in a book.
-pub fn match_orders(rt: &LibcRuntime) -> Result<(), JobFault> {
-    run_day::<Book>(rt, "book")
+/// Matches the commands of standard input in a market.
+pub fn match_orders(rt: &LibcRuntime, kind: MarketKind) -> Result<(), JobFault> {
+    match kind {
+        MarketKind::Book => run_day::<Book>(rt, "book"),
+        MarketKind::Call => run_day::<CallAuction>(rt, "call"),
+    }
 }

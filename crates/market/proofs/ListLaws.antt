@@ -1,12 +1,13 @@
 -- Tests of lists under what is taken out of them or put in.
-use mathlib.Core.Path.{_≡_, refl}
+use mathlib.Core.Path.{_≡_, refl, ap, _∙_}
 use mathlib.Core.List.{List, [], _∷_}
+use mathlib.Core.Logic.{_⊎_, ⊎-elim}
 use mathlib.Core.Bool.{Bool, true, false, cond, _&&_}
 use Prim.Native.Nat.{ℕ, _+_, _≤_}
 use native.Mathlib.Omega.{arith}
 use lib.ListN.{length}
 use Rattle.std.proofs.shelf.Tests.{and-parts}
-use Rattle.market.specs.Lists.{all, pairwise, across, without, placed}
+use Rattle.market.specs.Lists.{all, pairwise, across, In, without, placed}
 
 pub true-and : (a b : Bool) → a ≡ true → b ≡ true → (a && b) ≡ true
 true-and a b e f = rw (e, f)
@@ -17,6 +18,13 @@ module _ {X : Type 0} where
   all-weaken p q (x ∷ xs) f h =
       let a = and-parts (p x) (all p xs) h in
       true-and (q x) (all q xs) (f x (a .0)) (all-weaken p q xs f (a .1))
+
+  -- what holds of all holds of one of them
+  pub all-in : (p : X → Bool) (x : X) (xs : List X) → In x xs → all p xs ≡ true → p x ≡ true
+  all-in p x [] i h = absurd i
+  all-in p x (y ∷ ys) i h =
+      let a = and-parts (p y) (all p ys) h in
+      ⊎-elim (λ e. ap p e ∙ a .0) (λ j. all-in p x ys j (a .1)) i
 
   -- taken out
   pub all-without : (p q : X → Bool) (xs : List X) → all q xs ≡ true → all q (without p xs) ≡ true

@@ -15,6 +15,10 @@ use Rattle.market.specs.declared.orders.Order.{Order}
 use Rattle.market.specs.Lists.{found, without, FoundAt}
 use Rattle.market.specs.Orders.{less, reduced, Has}
 
+-- what a read past the end would give
+abbrev pub blank : Order
+blank = record { number = record { 0 = 0 }; member = record { 0 = 0 }; price = record { 0 = 0 }; lots = record { 0 = 0 } }
+
 -- the first order leaves where all its lots are taken
 pub reduced-leaves : (xs ys : List Order) (r : Order) (n : ℕ) → r ≡ getD xs 0 r → Has xs n → r .lots .0 - n ≡ 0 → ys ≡ removed xs 0 → ys ≡ reduced xs n
 reduced-leaves [] ys r n e h z y = absurd h
@@ -54,3 +58,7 @@ sought-all {X} {p} {xs} {i} s h =
     let d = drop-all i xs h in
     let t = take-all i xs h in
     (s .finds ∙ rw d, s .leaves ∙ rw (d, t) (append-nil xs))
+
+-- one more of the orders that fill a table
+pub pushed-more : {X : Type 0} (os : List X) (i : ℕ) (d : X) (us vs : List X) → us ≡ take i os → i < length os → vs ≡ us ++ getD os i d ∷ [] → vs ≡ take (i + 1) os
+pushed-more os i d us vs e h v = v ∙ ap (λ z. z ++ getD os i d ∷ []) e ∙ sym (take-more os i d h)

@@ -12,12 +12,14 @@ use Rattle.std.proofs.shelf.Tests.{and-parts}
 use Rattle.records.specs.Commands.{within, in-range}
 use Rattle.records.specs.declared.numbers.CommandNumber.{CommandNumber}
 use Rattle.records.specs.declared.numbers.Member.{Member}
+use Rattle.records.specs.declared.numbers.Price.{Price}
+use Rattle.records.specs.declared.numbers.Lots.{Lots}
 use Rattle.records.specs.declared.commands.Side.{Side}
 use Rattle.records.specs.declared.commands.Side.the-variants.{Buy, Sell}
 use Rattle.market.specs.declared.orders.Order.{Order}
 use Rattle.market.specs.Lists.{all, pairwise, across, without, placed}
 use Rattle.market.specs.Orders.{before, differ, kept, less, is-of}
-use Rattle.market.specs.Resting.{Resting, side-sound, sound, passed, withdrawn}
+use Rattle.market.specs.Resting.{Resting, side-sound, sound, arriving, passed, withdrawn}
 use Rattle.market.proofs.ListLaws.{true-and, all-weaken, all-without, pairwise-without, length-without, across-without, all-placed, length-placed, pairwise-placed, across-swap}
 
 pub record SideSound (s : Side) (n : ℕ) (xs : List Order) : Type 0 where
@@ -137,6 +139,10 @@ side-placed {s} {n} {xs} m o up new k l f = record {
       (λ x e u. differ-swap o x (new-differs n o new x u)) xs (f .ranged) (f .distinct);
   ranged = all-placed (before s) o (kept m) xs k (all-weaken (kept n) (kept m) xs (kept-up n m up) (f .ranged));
 }
+
+-- an order that arrives keeps its ranges, under its own number
+pub arriving-kept : (h : Resting) (m : Member) (p : Price) (l : Lots) → in-range m p l ≡ true → kept (h .last + 1) (arriving h m p l) ≡ true
+arriving-kept h m p l g = true-and (in-range m p l) _ g (search needs)
 
 -- the steps that all markets share
 pub passed-sound : (h : Resting) → h .last < 1_000_000_000_000 → Sound h → Sound (passed h)

@@ -1,9 +1,9 @@
 -- Orders: rank, what they tell, and the notices of them.
 use mathlib.Core.Bool.{Bool, cond, not, _&&_}
 use mathlib.Core.List.{List, [], _∷_}
-use Prim.Native.Nat.{ℕ, _-_, _≤_}
+use Prim.Native.Nat.{ℕ, _+_, _-_, _≤_}
 use lib.ListN.{length}
-use lib.Dec.{ltb, eqb}
+use lib.Dec.{ltb, leb, eqb}
 use Rattle.std.specs.declared.option.Option.{Option}
 use Rattle.std.specs.declared.option.Option.the-variants.{Some, None}
 use Rattle.rank.specs.Ranked.{low-first, high-first}
@@ -28,6 +28,15 @@ before Sell x y = low-first (x .price .0, x .number .0) (y .price .0, y .number 
 abbrev pub other : Side → Side
 other Buy = Sell
 other Sell = Buy
+
+-- an order of side s at price p accepts the price q: a buy accepts what is no higher, a sell what is no lower
+abbrev pub accepts : Side → ℕ → ℕ → Bool
+accepts Buy p q = leb q p
+accepts Sell p q = leb p q
+
+-- a buy and a sell that stay apart in price
+abbrev pub below : Order → Order → Bool
+below b s = ltb (b .price .0) (s .price .0)
 
 -- two orders have not one number
 abbrev pub differ : Order → Order → Bool
@@ -58,6 +67,11 @@ fill c buy sell p n = record { number = record { 0 = 0 }; command = c; kind = Fi
 -- the notice that all lots of an order were dropped or cancelled
 abbrev pub lots-of : Kind → CommandNumber → Order → Notice
 lots-of k c o = record { number = record { 0 = 0 }; command = c; kind = k; a = party o; b = nobody; price = record { 0 = 0 }; lots = o .lots }
+
+-- the lots of all notices
+abbrev pub total : List Notice → ℕ
+total [] = 0
+total (v ∷ vs) = v .lots .0 + total vs
 
 -- an order's lots found no place to rest
 abbrev pub dropped : Order → Notice

@@ -6,10 +6,13 @@ ghost use Prim.Native.Nat.{ℕ, _+_, _≤_};
 ghost use lib.ListN.{length};
 ghost use lib.Dec.{ltb};
 ghost use Rattle.std.specs.Vec.{made};
+ghost use Rattle.std.specs.declared.option.Option.{Option};
+ghost use Rattle.std.specs.declared.option.Option.the-variants.{Some};
+ghost use Rattle.records.specs.LittleEndian.{Bytes};
 ghost use Rattle.records.specs.declared.commands.Command.{Command};
 ghost use Rattle.records.specs.declared.notices.Notice.{Notice};
 ghost use Rattle.market.specs.Lists.{all};
-ghost use Rattle.market.specs.Steps.{Applied, uncounted};
+ghost use Rattle.market.specs.Steps.{Applied, Loaded, uncounted};
 use records::commands::Command;
 use records::notices::Notice;
 use records::numbers::CommandNumber;
@@ -40,6 +43,11 @@ pub trait Market: Sized {
 
     ghost step: { State → Command → State × List Notice };
 
+    // the bytes that a state is saved as, and the state that bytes are saved from
+    ghost body: { State → List ℕ };
+
+    ghost loads: { List ℕ → Option State };
+
     law starts: { valid start × (count start ≡ 0) };
 
     law sound: { (m : Self) → valid (means m) };
@@ -53,6 +61,16 @@ pub trait Market: Sized {
     law counts: { (s : State) (c : Command) → count (step s c .0) ≡ cond (ltb (count s) 1000000000000) (count s + 1) (count s) };
 
     law uncounts: { (s : State) (c : Command) → all (uncounted (count s + 1)) (step s c .1) ≡ true };
+
+    law sized: { (s : State) → valid s → length (body s) ≡ 1536 };
+
+    law plain: { (s : State) → valid s → Bytes (body s) };
+
+    // loading a saved state gives it back
+    law back: { (s : State) → valid s → loads (body s) ≡ Some s };
+
+    // what loads is the body of a state that the market can be in
+    law only: { (b : List ℕ) (s : State) → loads b ≡ Some s → valid s × (body s ≡ b) };
 
     /// The market's code, for code that knows it only as a market.
     fn code_number() -> u16
@@ -73,4 +91,12 @@ pub trait Market: Sized {
     /// Steps, puts the notices over the front of the list and says how many they are.
     fn apply(&mut self, command: &Command, list: &mut [Notice]) -> Result<usize, Refusal>
         ensures { λ r. ⌜ Applied (means (now (self .entry))) (step (means (now (self .entry))) (now (command .entry))) (now (list .entry)) (means (now (self .exit))) (now (list .exit)) r ⌝ };
+
+    /// Writes the body.
+    fn save(&self, out: &mut [u8; 1536])
+        ensures { λ _. ⌜ now (out .exit) ≡ body (means (now (self .entry))) ⌝ };
+
+    /// Takes the state that the bytes were saved from; others are refused, and the state stays.
+    fn load(&mut self, from: &[u8; 1536]) -> Result<(), Refusal>
+        ensures { λ r. ⌜ Loaded (loads (now (from .entry))) (means (now (self .entry))) (means (now (self .exit))) r ⌝ };
 }

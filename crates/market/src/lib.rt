@@ -2,9 +2,11 @@
 //! ranks, the table of a side's orders, resting and cancelling.
 //!
 //! Proved: the table's calls equal their definitions; a table lends a row and follows what is
-//! written to it; nothing allocates after construction.
+//! written to it; nothing allocates after construction; a state that one market saves and another
+//! loads is the same state, whatever the market.
 //! Trusted: the toolchain.
 
+pub mod copies;
 pub mod interface;
 pub mod notes;
 pub mod orders;

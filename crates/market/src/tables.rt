@@ -87,6 +87,19 @@ impl OrderTable {
         self.rows.clear();
     }
 
+    /// Keeps these orders in place of its own, in the memory that is there.
+    pub fn refill(&mut self, orders: &[Order])
+        requires few { ⌜ length (now orders) ≤ 32 ⌝ }
+        requires room { ⌜ 32 ≤ vec-cap (now self .rows) ⌝ }
+        ensures rows { λ _. ⌜ rows (now (self .exit)) ≡ now (orders .entry) ⌝ }
+        ensures capacity { λ _. ⌜ vec-cap (now (self .exit) .rows) ≡ vec-cap (now (self .entry) .rows) ⌝ }
+    {
+        self.clear();
+        for order in orders {
+            self.rows.push_reserved(*order);
+        }
+    }
+
     // Lends one row: the table ends with what is written to it there, and nothing else changed.
     fn row(&mut self, i: usize) -> &mut Order
         requires { ⌜ i < vec-len (now self .rows) ⌝ }

@@ -1,6 +1,7 @@
 use mathlib.Core.Path.{refl, sym, ap}
 use lib.ListN.{getD}
-use Rattle.book.proofs.Meetings.{blank, filled, stopped}
+use Rattle.market.proofs.Rows.{blank}
+use Rattle.book.proofs.Meetings.{filled, stopped}
 use Rattle.book.proofs.matching.fill_first.Needs as need
 
 pub returns-then-not-can-trade : need.returns-then-not-can-trade

@@ -15,3 +15,15 @@ counts-law = laws.counts
 
 pub uncounts-law : need.uncounts-law
 uncounts-law = laws.uncounts
+
+pub sized-law : need.sized-law
+sized-law = laws.sized
+
+pub back-law : need.back-law
+back-law = laws.back
+
+pub only-law : need.only-law
+only-law = laws.only
+
+pub plain-law : need.plain-law
+plain-law h v = laws.plain h

@@ -2,7 +2,8 @@ use mathlib.Core.Path.{refl}
 use native.Mathlib.Omega.{arith}
 use Rattle.market.specs.Resting.{arriving}
 use Rattle.book.specs.Means.{book-state}
-use Rattle.book.proofs.Sounds.{book-fact, arriving-kept, bought-valid, sold-valid}
+use Rattle.market.proofs.Sounds.{arriving-kept}
+use Rattle.book.proofs.Sounds.{book-fact, bought-valid, sold-valid}
 use Rattle.book.proofs.shape.Book.enter.Needs as need
 
 pub trade-requires : need.trade-requires
