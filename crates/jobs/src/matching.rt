@@ -11,7 +11,6 @@ use book::shape::Book;
 use call::ledger::CallMarket;
 use call::shape::CallAuction;
 use console::day::Day;
-use console::words::LineFault;
 use market::interface::Market;
 use market::orders::Order;
 use records::commands::Command;
@@ -23,6 +22,7 @@ use texts::lines::NoticeLine;
 use texts::lines::NoticeLineDisplay;
 use texts::lines::OrderLine;
 use texts::lines::OrderLineDisplay;
+use words::LineFault;
 
 /// A market whose resting orders can be shown.
 trait Shown {

@@ -3,13 +3,13 @@ use crate::faults::JobFault;
 use crate::faults::JobFaultFromAlloc;
 use crate::faults::JobFaultFromIo;
 use console::input::LineBuffer;
-use console::words::LineFault;
-use console::words::LineFaultDisplay;
-use console::words::command_of;
 use records::commands::Command;
 use records::refusals::Refusal;
 use std::io::BufReader;
 use std::io::Read;
+use words::LineFault;
+use words::LineFaultDisplay;
+use words::command_of;
 
 /// Who takes the commands.
 pub(crate) trait Taker {

@@ -5,8 +5,8 @@ ghost use lib.Dec.{eqb};
 ghost use Rattle.std.specs.Vec.{made};
 ghost use Rattle.console.specs.Inputs.{held, Pushed};
 use super::LineBuffer;
-use crate::words::LineFault;
 use std::str::from_utf8;
+use words::LineFault;
 
 impl LineBuffer {
     /// An empty line.

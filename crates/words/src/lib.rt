@@ -1,7 +1,10 @@
 //! Commands from words.
+//!
+//! Proved: words are read only as the command that they spell.
+//! Trusted: the toolchain.
 ghost use mathlib.Core.List.{map};
 ghost use Rattle.std.specs.Vec.{made};
-ghost use Rattle.console.specs.Spellings.{Writes, Enters, Cancels, Spells};
+ghost use Rattle.words.specs.Spellings.{Writes, Enters, Cancels, Spells};
 ghost use Rattle.texts.specs.Texts.{side-word};
 ghost use mathlib.Core.Path.{_≡_};
 use records::commands::Command;

@@ -2,8 +2,8 @@ use borrow.Author.Needs.{needs}
 use mathlib.Core.Path.{_≡_, _∙_, ap}
 use mathlib.Core.List.{[], _∷_}
 use lib.ListN.{length}
-use Rattle.console.proofs.Spelled.{one, entered, cancelled}
-use Rattle.console.proofs.words.command_of.Needs as need
+use Rattle.words.proofs.Spelled.{one, entered, cancelled}
+use Rattle.words.proofs.command_of.Needs as need
 
 pub returns-in-cross : need.returns-in-cross
 returns-in-cross c =

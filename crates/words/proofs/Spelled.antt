@@ -11,8 +11,8 @@ use Rattle.std.specs.declared.result.Result.{Result}
 use Rattle.std.specs.declared.result.Result.the-variants.{Ok, Err}
 use Rattle.records.specs.declared.commands.Command.{Command}
 use Rattle.records.specs.declared.commands.Command.the-variants.{Enter, Cancel, Cross}
-use Rattle.console.specs.declared.words.LineFault.{LineFault}
-use Rattle.console.specs.Spellings.{Enters, Cancels, Spells}
+use Rattle.words.specs.declared.LineFault.{LineFault}
+use Rattle.words.specs.Spellings.{Enters, Cancels, Spells}
 
 module _ (d : RefT (List ℕ)) where
   -- the word at a place
