@@ -2,8 +2,8 @@ ghost use mathlib.Core.Path.{_≡_};
 ghost use mathlib.Core.Bool.{true, false};
 ghost use mathlib.Core.List.{[]};
 ghost use lib.Dec.{eqb};
-ghost use Rattle.std.specs.Vec.{made};
-ghost use Rattle.console.specs.Inputs.{held, Pushed};
+ghost use Rattle.std.specs.Results.{Cases};
+ghost use Rattle.console.specs.Inputs.{held, Pushed, NoText};
 use super::LineBuffer;
 use std::str::from_utf8;
 use words::LineFault;
@@ -49,7 +49,7 @@ impl LineBuffer {
 
     /// The line as text.
     pub fn text(&self) -> Result<&str, LineFault>
-        ensures { λ r. ⌜ made r (λ t. (now t ≡ held (now (self .entry))) × (now (self .entry) .long ≡ false)) ⌝ }
+        ensures { λ r. ⌜ Cases r (λ t. (now t ≡ held (now (self .entry))) × (now (self .entry) .long ≡ false)) (NoText (now (self .entry))) ⌝ }
     {
         if self.long {
             return Err(LineFault::TooLong);
