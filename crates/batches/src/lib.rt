@@ -2,6 +2,8 @@
 //!
 //! Proved: the market is then in the state after these commands, the front of the list has just the notices that they give,
 //! numbered on from those before, and the rest of the list is as it was. Trusted: the toolchain.
+#![tactic(auto)]
+
 ghost use Rattle.std.specs.Prelude.{◌≡◌, ◌+◌, ◌*◌, ◌^◌, ◌<◌, ◌≤◌, length};
 ghost use Rattle.market.specs.Lists.{over};
 ghost use Rattle.records.specs.Notices.{counted};
@@ -16,9 +18,9 @@ use records::numbers::NoticeNumber;
 // One command: its notices come over the list from `at` on; how many they are.
 fn apply_one<M: Market>(market: &mut M, command: &Command, list: &mut [Notice]) -> usize
     requires { 64 ≤ length list.old }
-    ensures state { means market.new ≡ (step (means market.old) command.now).0 }
-    ensures number { result ≡ length (step (means market.old) command.now).1 }
-    ensures list { list.new ≡ over list.old (step (means market.old) command.now).1 }
+    ensures state { M.means market.new ≡ (M.step (M.means market.old) command.now).0 }
+    ensures number { result ≡ length (M.step (M.means market.old) command.now).1 }
+    ensures list { list.new ≡ over list.old (M.step (M.means market.old) command.now).1 }
     ensures few { result ≤ 64 }
 {
     match market.apply(command, list) {
@@ -30,9 +32,9 @@ fn apply_one<M: Market>(market: &mut M, command: &Command, list: &mut [Notice]) 
 // All commands, their notices not yet counted.
 fn apply_all<M: Market>(market: &mut M, commands: &[Command], list: &mut [Notice]) -> usize
     requires { 64 * length commands.now ≤ length list.old }
-    ensures state { means market.new ≡ after_all step (means market.old) commands.now }
-    ensures number { result ≡ length (given_by step (means market.old) commands.now) }
-    ensures list { list.new ≡ over list.old (given_by step (means market.old) commands.now) }
+    ensures state { M.means market.new ≡ after_all M.step (M.means market.old) commands.now }
+    ensures number { result ≡ length (given_by M.step (M.means market.old) commands.now) }
+    ensures list { list.new ≡ over list.old (given_by M.step (M.means market.old) commands.now) }
     ensures few { result ≤ 64 * length commands.now }
 {
     let mut at = 0;
@@ -60,9 +62,9 @@ pub fn apply_page<M: Market>(
 ) -> usize
     requires room { 64 * length commands.now ≤ length list.old }
     requires fits { before.0 + 64 * length commands.now < 2 ^ 64 }
-    ensures state { means market.new ≡ after_all step (means market.old) commands.now }
-    ensures number { result ≡ length (given_by step (means market.old) commands.now) }
-    ensures list { list.new ≡ over list.old (counted before.0 (given_by step (means market.old) commands.now)) }
+    ensures state { M.means market.new ≡ after_all M.step (M.means market.old) commands.now }
+    ensures number { result ≡ length (given_by M.step (M.means market.old) commands.now) }
+    ensures list { list.new ≡ over list.old (counted before.0 (given_by M.step (M.means market.old) commands.now)) }
     ensures few { result ≤ 64 * length commands.now }
 {
     let n = apply_all(market, commands, list);

@@ -1,13 +1,13 @@
 -- Parts that are written one after another.
-use Rattle.std.proofs.Common.{◌≡◌, ℕ, zero, suc, ◌+◌, ◌-◌, ◌*◌, ◌/◌, ◌%◌, ◌<◌, ◌≤◌, List, [], ◌∷◌, ◌++◌, length, get_or, take, drop, set, replicate, sym, refl, ap, ◌∙◌, subst, add-zero, zero-add, add-one, arith, length-append, length-drop, length-set, length-take}
+use Rattle.std.proofs.Common.{◌≡◌, ℕ, suc, ◌+◌, ◌-◌, ◌*◌, ◌/◌, ◌%◌, ◌<◌, ◌≤◌, List, [], ◌∷◌, ◌++◌, length, get_or, take, drop, set, replicate, sym, refl, ap, ◌∙◌, subst, add-zero, zero-add, arith, length-append, length-drop, length-set}
 use native.Mathlib.Numerals.{unary_clauses}
-use Rattle.std.proofs.lemmas.List.{append_assoc, append-nil, take_at, drop_at, drop-drop, length-take-le, take-append-drop, take_all, take_more, take_more_set, drop-set-lt, set_at, drop_more, length_push, drop-replicate}
+use Rattle.std.proofs.lemmas.List.{append_assoc, append-nil, take_at, drop_at, drop-drop, length-take-le, take-append-drop, take_all, take_more, take_more_set, drop-set-lt, drop-replicate}
 use Rattle.records.specs.LittleEndian.{le}
 use Rattle.records.proofs.LittleEndianLaws.{length_le}
 use Rattle.market.specs.declared.orders.Order.{Order}
 use Rattle.market.specs.Resting.{Resting}
 use Rattle.body.specs.declared.writing.OrderFields.{OrderFields}
-use Rattle.body.specs.Layout.{list_put_at, Put, order_fields, order_bytes, orders_bytes, content, body}
+use Rattle.body.specs.Layout.{list_put_at, Put, order_fields, order_bytes, orders_bytes, content}
 
 module _ {X : Type 0} (xs : List X) (i : ℕ) (ys : List X) (h : i + length ys ≤ length xs) where
   pub length_put : length (list_put_at xs i ys) ≡ length xs

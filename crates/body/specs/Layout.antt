@@ -1,5 +1,5 @@
 -- A state as the bytes of its body.
-use Rattle.std.specs.Prelude.{◌≡◌, ℕ, zero, suc, ◌+◌, ◌-◌, ◌*◌, Bool, true, false, ◌&&◌, List, [], ◌∷◌, ◌++◌, length, take, drop, replicate, ◌==◌}
+use Rattle.std.specs.Prelude.{◌≡◌, ℕ, zero, suc, ◌+◌, ◌-◌, Bool, true, false, ◌&&◌, List, [], ◌∷◌, ◌++◌, length, take, drop, replicate, ◌==◌}
 use Rattle.records.specs.LittleEndian.{le, field}
 use Rattle.market.specs.declared.orders.Order.{Order}
 use Rattle.market.specs.Resting.{Resting}

@@ -22,7 +22,7 @@ pub(crate) enum Relation {
 }
 
 fn stands_before<B, T: Rank<B>>(x: &T, y: &T) -> bool
-    ensures { result ≡ earlier (key x.now) (key y.now) }
+    ensures { result ≡ T.earlier (T.key x.now) (T.key y.now) }
 {
     x.stands_before(y)
 }

@@ -4,6 +4,7 @@
 //! Proved: `write_body` writes exactly the defined bytes; `read_body` answers the state that bytes
 //! are the body of, and refuses all others; a state's tests say what makes it sound.
 //! Trusted: the toolchain.
+#![tactic(auto)]
 
 mod bytes;
 mod checks;

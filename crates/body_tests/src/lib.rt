@@ -2,6 +2,8 @@
 //! broken, buys that meet sells, a byte behind the end, and more orders than may rest.
 //!
 //! That load takes exactly the saved bodies is proved with the markets; these tests show it.
+#![tactic(auto)]
+
 use book::shape::Book;
 use call::shape::CallAuction;
 use market::interface::Market;

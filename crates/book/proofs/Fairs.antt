@@ -1,30 +1,28 @@
 -- The book is fair.
-use Rattle.std.proofs.Common.{◌≡◌, ℕ, ◌+◌, ◌-◌, ◌<◌, ◌≤◌, Bool, true, false, cond, ◌&&◌, eqb, ltb, ◌⊎◌, List, [], ◌∷◌, ◌++◌, length, take, drop, IfOk, Result, sym, refl, ap, ◌∙◌, subst, inl, inr, ⊎_elim, arith, rules, ltb-true, eq-eqb, ne_eqb, eqb-true}
-use borrow.Author.Tests.{eqb-false}
+use Rattle.std.proofs.Common.{◌≡◌, ℕ, ◌+◌, ◌≤◌, Bool, true, false, cond, eqb, ltb, ◌⊎◌, List, [], ◌∷◌, ◌++◌, length, take, IfOk, Result, sym, refl, ap, ◌∙◌, subst, inl, inr, ⊎_elim, arith, rules, ltb-true, eq-eqb, eqb-true}
 use Rattle.std.specs.Option.{option_to_list}
 use Rattle.std.proofs.lemmas.Bool.{and_parts}
 use Rattle.std.proofs.lemmas.List.{append-nil}
-use Rattle.records.specs.Commands.{good, within, in_range}
 use Rattle.records.specs.declared.commands.Side.{Side}
 use Rattle.records.specs.declared.commands.Side.TheVariants.{Buy, Sell}
 use Rattle.records.specs.declared.commands.Command.{Command}
 use Rattle.records.specs.declared.commands.Command.TheVariants.{Enter, Cancel, Cross}
-use Rattle.records.specs.declared.notices.Kind.TheVariants.{Fill, Dropped}
+use Rattle.records.specs.declared.notices.Kind.TheVariants.{Dropped}
 use Rattle.records.specs.declared.notices.Notice.{Notice}
 use Rattle.records.specs.declared.refusals.Refusal.{Refusal}
 use Rattle.market.specs.declared.orders.Order.{Order}
-use Rattle.market.specs.Lists.{all, pairwise, across, placed, In}
+use Rattle.market.specs.Lists.{all, pairwise, placed, In}
 use Rattle.market.specs.Orders.{before, other, accepts, below, total, kept, differ, less, rested, dropped}
 use Rattle.market.specs.Resting.{Resting, arriving}
 use Rattle.market.specs.Steps.{Applied}
 use Rattle.market.proofs.ListLaws.{all_weaken, all_in}
-use Rattle.market.proofs.Sounds.{SideSound, Sound, all_new}
-use Rattle.market.proofs.StepLaws.{stepped_ind, answer_tells}
-use Rattle.book.specs.Matching.{trades, fill_with, met, Met, traded}
-use Rattle.book.specs.Steps.{Valid, entered, acted, book_step}
+use Rattle.market.proofs.Sounds.{SideSound, all_new}
+use Rattle.market.proofs.StepLaws.{answer_tells}
+use Rattle.book.specs.Matching.{trades, fill_with, met, traded}
+use Rattle.book.specs.Steps.{Valid, entered, book_step}
 use Rattle.book.specs.Fairness.{side_of, LeftOf, FairFill, open_lots, Entry, Uncrossed, Fair}
 use Rattle.book.specs.Meetings.{met_ind}
-use Rattle.book.specs.Sounds.{book_fact, met_taker, traded_rows}
+use Rattle.book.specs.Sounds.{book_fact, met_taker}
 use Rattle.book.specs.Laws.{keeps}
 
 in_append : {X : Type 0} (x : X) (xs ys : List X) → In x (xs ++ ys) → In x xs ⊎ In x ys

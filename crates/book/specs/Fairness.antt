@@ -5,7 +5,7 @@ use Rattle.records.specs.declared.commands.Side.{Side}
 use Rattle.records.specs.declared.commands.Side.TheVariants.{Buy, Sell}
 use Rattle.records.specs.declared.commands.Command.{Command}
 use Rattle.records.specs.declared.commands.Command.TheVariants.{Enter, Cancel, Cross}
-use Rattle.records.specs.declared.notices.Kind.TheVariants.{Fill, Dropped}
+use Rattle.records.specs.declared.notices.Kind.TheVariants.{Dropped}
 use Rattle.records.specs.declared.notices.Notice.{Notice}
 use Rattle.market.specs.declared.orders.Order.{Order}
 use Rattle.market.specs.Lists.{In}

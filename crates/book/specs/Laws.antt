@@ -1,7 +1,6 @@
 -- The book keeps the laws of a market.
-use Rattle.std.specs.Prelude.{◌≡◌, ℕ, ◌+◌, ◌<◌, ◌≤◌, Bool, true, false, cond, List, [], ◌∷◌, ◌++◌, length, Some, ◌==◌, nat_lt, refl}
-use Rattle.std.proofs.Common.{sym, ap, ◌∙◌, arith}
-use Rattle.std.specs.Option.{option_to_list}
+use Rattle.std.specs.Prelude.{◌≡◌, ℕ, ◌+◌, ◌<◌, ◌≤◌, Bool, true, false, cond, List, length, Some, ◌==◌, nat_lt, refl}
+use Rattle.std.proofs.Common.{ap, ◌∙◌, arith}
 use Rattle.std.proofs.lemmas.Bool.{and_parts}
 use Rattle.records.specs.Commands.{good}
 use Rattle.records.specs.LittleEndian.{Bytes}
@@ -9,22 +8,28 @@ use Rattle.records.specs.declared.commands.Side.{Side}
 use Rattle.records.specs.declared.commands.Side.TheVariants.{Buy, Sell}
 use Rattle.records.specs.declared.commands.Command.{Command}
 use Rattle.records.specs.declared.commands.Command.TheVariants.{Enter, Cancel, Cross}
-use Rattle.records.specs.declared.notices.Notice.{Notice}
 use Rattle.market.specs.declared.orders.Order.{Order}
 use Rattle.market.specs.Lists.{all}
-use Rattle.market.specs.Orders.{less, rested}
-use Rattle.market.specs.Resting.{Resting, sound, arriving}
+use Rattle.market.specs.Resting.{Resting, nothing, sound, arriving}
 use Rattle.market.specs.Steps.{uncounted}
 use Rattle.market.proofs.ListLaws.{true_and}
-use Rattle.market.proofs.Sounds.{SideSound, Sound, arriving_kept}
+use Rattle.market.proofs.Sounds.{arriving_kept}
 use Rattle.market.proofs.StepLaws.{stepped_ind, stepped_counts, all_append, uncounted_of, rested_uncounted, withdrawn_few, withdrawn_uncounted}
-use Rattle.book.specs.Matching.{fill_with, met, Met, traded}
+use Rattle.book.specs.Matching.{fill_with, met, traded}
 use Rattle.body.specs.Layout.{body}
 use Rattle.body.specs.Loads.{loads}
 use Rattle.body.proofs.Loading.{loads_back, loads_only, body_length, body_bytes}
+use Rattle.book.specs.declared.shape.Book.{Book}
+use Rattle.book.specs.Means.{book_state}
 use Rattle.book.specs.Steps.{book_sound, Valid, entered, acted, book_step}
 use Rattle.book.specs.Meetings.{met_ind}
 use Rattle.book.specs.Sounds.{book_fact, entered_valid, passed_valid, withdrawn_valid, traded_few, met_taker}
+
+pub starts : Valid nothing × (nothing.last ≡ 0)
+starts = (refl, refl)
+
+pub always_valid : (x : Book) → Valid (book_state x)
+always_valid x = x.ok
 
 acted_valid : (h : Resting) (c : Command) → Valid h → h.last < 1_000_000_000_000 → good c ≡ true → Valid (acted h c).0
 acted_valid h (Enter m s p q) v l g = entered_valid h s (arriving h m p q) refl (arriving_kept h m p q g) l v

@@ -1,5 +1,5 @@
 -- A meeting, one fill after another, and its fills in the lent list.
-use Rattle.std.specs.Prelude.{◌≡◌, ℕ, ◌+◌, ◌-◌, ◌<◌, ◌≤◌, min, Bool, true, false, cond, List, [], ◌∷◌, ◌++◌, length, get_or, take, drop, set, Some, None, Option, nat_eq, nat_le, nat_lt, slice_index_or, slice_set, refl}
+use Rattle.std.specs.Prelude.{◌≡◌, ℕ, ◌+◌, ◌-◌, ◌<◌, ◌≤◌, min, Bool, true, false, cond, List, [], ◌∷◌, ◌++◌, length, get_or, take, drop, set, Some, nat_eq, nat_le, nat_lt, slice_index_or, slice_set, refl}
 use Rattle.std.proofs.Common.{sym, ap, subst, ◌∙◌, arith, length-append, length-set, rules, leb-true, leb-false, eq-eqb, ne_eqb}
 use Rattle.std.specs.Option.{option_to_list}
 use Rattle.std.proofs.lemmas.Bool.{and_parts}
@@ -10,7 +10,7 @@ use Rattle.records.specs.declared.notices.Notice.{Notice}
 use Rattle.market.specs.declared.orders.Order.{Order}
 use Rattle.market.specs.Lists.{all, pairwise, over}
 use Rattle.market.specs.Orders.{before, other, less, reduced, front, rested}
-use Rattle.book.specs.Matching.{trades, fill_with, met, Met, after_fill, settled, traded, Filled, Stopped, MetAll, Traded}
+use Rattle.book.specs.Matching.{trades, fill_with, met, Met, after_fill, traded, Filled, Stopped, MetAll, Traded}
 
 -- what holds of every meeting, by the ways that a meeting goes
 module _ (s : Side) (P : Order → List Order → Met → Type 0)

@@ -1,9 +1,8 @@
 -- An entering order keeps the book sound.
-use Rattle.std.specs.Prelude.{◌≡◌, ℕ, ◌+◌, ◌-◌, ◌<◌, ◌≤◌, Bool, true, false, cond, not, ◌&&◌, List, [], ◌∷◌, ◌++◌, length, ◌==◌, nat_lt, refl}
+use Rattle.std.specs.Prelude.{◌≡◌, ℕ, ◌+◌, ◌<◌, ◌≤◌, Bool, true, false, cond, List, ◌++◌, length, ◌==◌, nat_lt, refl}
 use Rattle.std.proofs.Common.{sym, ap, subst, ◌∙◌, arith, length-append, rules, ltb-true}
 use Rattle.std.specs.Option.{option_to_list}
 use Rattle.std.proofs.lemmas.Bool.{and_parts, eqb-false}
-use Rattle.records.specs.Commands.{good}
 use Rattle.records.specs.declared.numbers.CommandNumber.{CommandNumber}
 use Rattle.records.specs.declared.numbers.Member.{Member}
 use Rattle.records.specs.declared.commands.Side.{Side}
@@ -11,14 +10,13 @@ use Rattle.records.specs.declared.commands.Side.TheVariants.{Buy, Sell}
 use Rattle.records.specs.declared.notices.Notice.{Notice}
 use Rattle.market.specs.declared.orders.Order.{Order}
 use Rattle.market.specs.Lists.{all, pairwise, across, placed}
-use Rattle.market.specs.Orders.{before, other, accepts, below, differ, kept, less, rested, dropped, is_of}
+use Rattle.market.specs.Orders.{before, other, below, differ, kept, less, rested, is_of}
 use Rattle.market.specs.Resting.{Resting, sound, passed, withdrawn}
-use Rattle.market.specs.Steps.{uncounted}
 use Rattle.market.proofs.ListLaws.{true_and, all_weaken, all_placed, across_swap, across_without}
 use Rattle.market.proofs.Sounds.{SideSound, Sound, sound_fact, sound_test, side_up, side_tail, side_less, side_placed, all_new, differ_swap, passed_sound, withdrawn_sound}
-use Rattle.book.specs.Matching.{trades, fill_with, met, Met, after_fill, settled, traded, Sides, Traded}
+use Rattle.book.specs.Matching.{trades, met, traded, Sides, Traded}
 use Rattle.book.specs.Fairness.{LeftOf}
-use Rattle.book.specs.Steps.{book_sound, Valid, entered}
+use Rattle.book.specs.Steps.{Valid, entered}
 use Rattle.book.specs.Meetings.{met_ind, met_few}
 
 -- the rows that a meeting leaves are sound

@@ -1,5 +1,5 @@
 -- The book: the states that it can be in, and its step.
-use Rattle.std.specs.Prelude.{◌≡◌, ℕ, ◌+◌, Bool, true, ◌&&◌, List, []}
+use Rattle.std.specs.Prelude.{◌≡◌, ◌+◌, Bool, true, ◌&&◌, List, []}
 use Rattle.records.specs.declared.commands.Side.{Side}
 use Rattle.records.specs.declared.commands.Side.TheVariants.{Buy, Sell}
 use Rattle.records.specs.declared.commands.Command.{Command}

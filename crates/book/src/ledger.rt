@@ -4,13 +4,12 @@ ghost use Rattle.records.specs.Commands.{in_range};
 ghost use Rattle.market.specs.Resting.{Resting, nothing, arriving, passed, withdrawn};
 ghost use Rattle.market.specs.Steps.{Taken, Applied};
 ghost use Rattle.market.specs.Means.{rows};
-ghost use Rattle.body.specs.Layout.{body as resting-body};
-ghost use Rattle.body.specs.Loads.{loads as body-loads};
+ghost use Rattle.body.specs.Layout.{body as resting_body};
+ghost use Rattle.body.specs.Loads.{loads as body_loads};
 ghost use Rattle.book.specs.Fairness.{Fair};
 ghost use Rattle.book.specs.Steps.{entered, book_sound, book_step, Valid};
 ghost use Rattle.book.specs.Means.{book_state};
 ghost use Rattle.book.specs.Laws as laws;
-ghost use Rattle.std.proofs.Common.{rules, arith};
 
 use crate::matching::trade;
 use crate::shape::Book;
@@ -144,13 +143,13 @@ impl Market for Book {
 
     ghost step = { book_step };
 
-    ghost body = { resting-body };
+    ghost body = { resting_body };
 
-    ghost loads = { body-loads book_sound };
+    ghost loads = { body_loads book_sound };
 
-    ghost starts = { first_of (Prim.search rules, Prim.grind (arith, Self.row.coded.inj)) };
+    ghost starts = { laws.starts };
 
-    ghost sound = { first_of (Prim.search rules, Prim.grind (arith, Self.row.coded.inj)) };
+    ghost sound = { laws.always_valid };
 
     ghost bounded = { laws.bounded };
 

@@ -5,6 +5,7 @@
 //! stands in rank order, and no buy meets a sell. Its body loads as the state that it was saved from,
 //! and nothing else loads.
 //! Trusted: the toolchain.
+#![tactic(auto)]
 
 pub mod ledger;
 mod matching;

@@ -1,5 +1,5 @@
 -- A cross is fair.
-use Rattle.std.proofs.Common.{◌≡◌, ℕ, zero, suc, ◌+◌, ◌-◌, ◌<◌, ◌≤◌, Bool, true, false, cond, eqb, ltb, leb, ◌⊎◌, List, [], ◌∷◌, length, take, IfOk, Result, sym, refl, ap, ◌∙◌, subst, inl, inr, ⊎_elim, arith, rules, ltb-true, eqb-true, leb-true}
+use Rattle.std.proofs.Common.{◌≡◌, ℕ, zero, suc, ◌+◌, ◌-◌, ◌<◌, ◌≤◌, Bool, true, false, cond, eqb, ltb, ◌⊎◌, List, [], ◌∷◌, length, take, IfOk, Result, sym, refl, ap, ◌∙◌, subst, inl, inr, ⊎_elim, arith, rules, ltb-true, eqb-true, leb-true}
 use borrow.Author.Tests.{eqb-false}
 use Rattle.std.proofs.lemmas.Bool.{and_parts}
 use Rattle.records.specs.declared.numbers.CommandNumber.{CommandNumber}
@@ -12,15 +12,15 @@ use Rattle.records.specs.declared.refusals.Refusal.{Refusal}
 use Rattle.market.specs.declared.orders.Order.{Order}
 use Rattle.market.specs.Lists.{all, In}
 use Rattle.market.specs.Orders.{accepts, kept, less, reduced, fill, total}
-use Rattle.market.specs.Resting.{Resting, next, passed}
+use Rattle.market.specs.Resting.{Resting, next}
 use Rattle.market.specs.Steps.{Applied}
 use Rattle.market.proofs.ListLaws.{true_and, all_weaken}
-use Rattle.market.proofs.Sounds.{SideSound, Sound, sound_fact}
+use Rattle.market.proofs.Sounds.{sound_fact}
 use Rattle.market.proofs.StepLaws.{answer_tells}
-use Rattle.call.specs.Clearing.{lots_in, offered, matched, at_price, clearing}
+use Rattle.call.specs.Clearing.{lots_in, at_price, clearing}
 use Rattle.call.specs.Crossing.{taken, pair_lots, pair, pairs, Fillable}
 use Rattle.call.specs.Fairness.{Rests, matched_at, Idle, FairPair, FilledInRank, Crossing, Fair}
-use Rattle.call.specs.Steps.{Valid, crossed_at, crossed, call_step}
+use Rattle.call.specs.Steps.{Valid, crossed, call_step}
 use Rattle.call.specs.Clearings.{offered_within, no_more, lower_fewer, clearing_best, clearing_from, clearing_matched}
 use Rattle.call.specs.Pairings.{some_order, buyer_accepts, seller_accepts, core, ended}
 use Rattle.call.specs.Sounds.{taken_ind, taken_lots, fillable}

@@ -11,10 +11,10 @@ use Rattle.records.specs.declared.commands.Command.TheVariants.{Enter, Cancel, C
 use Rattle.market.specs.declared.orders.Order.{Order}
 use Rattle.market.specs.Lists.{all}
 use Rattle.market.specs.Orders.{reduced}
-use Rattle.market.specs.Resting.{Resting, sound, next, arriving}
+use Rattle.market.specs.Resting.{Resting, nothing, sound, next, arriving}
 use Rattle.market.specs.Steps.{uncounted}
 use Rattle.market.proofs.ListLaws.{true_and}
-use Rattle.market.proofs.Sounds.{Sound, sound_fact, arriving_kept}
+use Rattle.market.proofs.Sounds.{sound_fact, arriving_kept}
 use Rattle.market.proofs.StepLaws.{stepped_ind, stepped_counts, uncounted_of, rested_few, rested_uncounted, withdrawn_few, withdrawn_uncounted}
 use Rattle.body.specs.Layout.{body}
 use Rattle.body.specs.Loads.{loads}
@@ -22,9 +22,17 @@ use Rattle.body.proofs.Loading.{loads_back, loads_only, body_length, body_bytes}
 use Rattle.call.specs.declared.clearing.Clearing.{Clearing}
 use Rattle.call.specs.Clearing.{clearing}
 use Rattle.call.specs.Crossing.{pair_lots, pair, pairs}
-use Rattle.call.specs.Steps.{Valid, entered, crossed_at, crossed, acted, call_step}
+use Rattle.call.specs.declared.shape.CallAuction.{CallAuction}
+use Rattle.call.specs.Means.{call_state}
+use Rattle.call.specs.Steps.{Valid, crossed_at, acted, call_step}
 use Rattle.call.specs.Pairings.{pairs_few}
 use Rattle.call.specs.Sounds.{entered_valid, passed_valid, withdrawn_valid, crossed_valid}
+
+pub starts : Valid nothing × (nothing.last ≡ 0)
+starts = (refl, refl)
+
+pub always_valid : (x : CallAuction) → Valid (call_state x)
+always_valid x = x.ok
 
 acted_valid : (h : Resting) (c : Command) → Valid h → h.last < 1_000_000_000_000 → good c ≡ true → Valid (acted h c).0
 acted_valid h (Enter m s p q) v l g = entered_valid h s (arriving h m p q) refl (arriving_kept h m p q g) l v

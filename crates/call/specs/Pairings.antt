@@ -1,6 +1,6 @@
 -- A cross, one pair after another, and its fills in the lent list.
-use Rattle.std.specs.Prelude.{◌≡◌, ℕ, zero, suc, ◌+◌, ◌-◌, ◌<◌, ◌≤◌, min, Bool, true, false, cond, ltb, List, [], ◌∷◌, ◌++◌, length, take, drop, ◌==◌, nat_eq, nat_lt, slice_index_or, slice_set, refl}
-use Rattle.std.proofs.Common.{sym, ap, subst, ◌∙◌, arith, length-append, length-set, rules, ltb-true, ltb-false, eqb-true, eq-eqb, ne_eqb}
+use Rattle.std.specs.Prelude.{◌≡◌, ℕ, zero, suc, ◌+◌, ◌-◌, ◌<◌, ◌≤◌, Bool, true, false, cond, ltb, List, [], ◌∷◌, ◌++◌, length, take, drop, ◌==◌, nat_eq, nat_lt, slice_index_or, slice_set, refl}
+use Rattle.std.proofs.Common.{sym, ap, ◌∙◌, arith, length-set, rules, ltb-true, ltb-false, eqb-true, eq-eqb, ne_eqb}
 use Rattle.std.proofs.lemmas.Bool.{and_parts, eqb-false}
 use Rattle.std.proofs.lemmas.List.{length-take-le, take_more_set, drop-set-lt, append_assoc, append-nil, take-append-drop, drop-drop}
 use Rattle.records.specs.declared.numbers.CommandNumber.{CommandNumber}
@@ -9,7 +9,7 @@ use Rattle.records.specs.declared.commands.Side.{Side}
 use Rattle.records.specs.declared.commands.Side.TheVariants.{Buy, Sell}
 use Rattle.records.specs.declared.notices.Notice.{Notice}
 use Rattle.market.specs.declared.orders.Order.{Order}
-use Rattle.market.specs.Lists.{all, pairwise, over}
+use Rattle.market.specs.Lists.{all, pairwise}
 use Rattle.market.specs.Orders.{before, accepts, less, reduced, Has, fill}
 use Rattle.call.specs.Clearing.{offered}
 use Rattle.call.specs.Crossing.{taken, pair_lots, pair, pairs, Fillable, Paired, PairedAll}

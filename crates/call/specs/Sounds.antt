@@ -1,7 +1,7 @@
 -- Commands keep the call auction sound.
 use Rattle.std.specs.Prelude.{◌≡◌, ℕ, ◌+◌, ◌-◌, ◌*◌, ◌<◌, ◌≤◌, Bool, true, false, cond, List, [], ◌∷◌, length, ◌==◌, ◌≢◌, nat_lt, refl}
 use Rattle.std.proofs.Common.{sym, ap, subst, ◌∙◌, arith, rules, ltb-true, ltb-false, eqb-true, eq-eqb, ne_eqb}
-use Rattle.std.proofs.lemmas.Bool.{and_parts, eqb-false}
+use Rattle.std.proofs.lemmas.Bool.{and_parts}
 use Rattle.records.specs.declared.numbers.CommandNumber.{CommandNumber}
 use Rattle.records.specs.declared.numbers.Member.{Member}
 use Rattle.records.specs.declared.numbers.Price.{Price}
@@ -14,9 +14,9 @@ use Rattle.market.specs.Orders.{before, differ, kept, less, rested}
 use Rattle.market.specs.Resting.{Resting, next, passed, withdrawn}
 use Rattle.market.specs.Steps.{Taken}
 use Rattle.market.proofs.ListLaws.{true_and, all_weaken, all_placed, across_swap}
-use Rattle.market.proofs.Sounds.{SideSound, Sound, sound_fact, sound_test, side_up, side_tail, side_less, side_placed, all_new, differ_swap, passed_sound, withdrawn_sound}
+use Rattle.market.proofs.Sounds.{SideSound, sound_fact, sound_test, side_up, side_tail, side_less, side_placed, all_new, differ_swap, passed_sound, withdrawn_sound}
 use Rattle.call.specs.declared.clearing.Clearing.{Clearing}
-use Rattle.call.specs.Clearing.{lots_in, offered, matched, clearing, FewLots, Summable}
+use Rattle.call.specs.Clearing.{lots_in, offered, clearing, FewLots, Summable}
 use Rattle.call.specs.Crossing.{taken, Fillable, PairedAll}
 use Rattle.call.specs.Steps.{Valid, entered, crossed_at, crossed}
 use Rattle.call.specs.Clearings.{clearing_matched}

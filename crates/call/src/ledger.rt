@@ -6,13 +6,12 @@ ghost use Rattle.market.specs.Orders.{rested};
 ghost use Rattle.market.specs.Resting.{Resting, nothing, sound, arriving, passed, withdrawn};
 ghost use Rattle.market.specs.Steps.{Taken, Applied};
 ghost use Rattle.market.specs.Means.{rows};
-ghost use Rattle.body.specs.Layout.{body as resting-body};
-ghost use Rattle.body.specs.Loads.{loads as body-loads};
+ghost use Rattle.body.specs.Layout.{body as resting_body};
+ghost use Rattle.body.specs.Loads.{loads as body_loads};
 ghost use Rattle.call.specs.Fairness.{Fair};
 ghost use Rattle.call.specs.Steps.{entered, crossed, call_step, Valid};
 ghost use Rattle.call.specs.Means.{call_state};
 ghost use Rattle.call.specs.Laws as laws;
-ghost use Rattle.std.proofs.Common.{rules, arith};
 
 use crate::clearing::clearing_of;
 use crate::pairing::pair_all;
@@ -171,13 +170,13 @@ impl Market for CallAuction {
 
     ghost step = { call_step };
 
-    ghost body = { resting-body };
+    ghost body = { resting_body };
 
-    ghost loads = { body-loads sound };
+    ghost loads = { body_loads sound };
 
-    ghost starts = { first_of (Prim.search rules, Prim.grind (arith, Self.row.coded.inj)) };
+    ghost starts = { laws.starts };
 
-    ghost sound = { first_of (Prim.search rules, Prim.grind (arith, Self.row.coded.inj)) };
+    ghost sound = { laws.always_valid };
 
     ghost bounded = { laws.bounded };
 

@@ -6,6 +6,7 @@
 //! lots, no more and no fewer, at a price that both orders of each fill accept. Its body loads as the
 //! state that it was saved from, and nothing else loads.
 //! Trusted: the toolchain.
+#![tactic(auto)]
 
 mod clearing;
 pub mod ledger;

@@ -2,10 +2,11 @@
 //!
 //! Proved: every function is safe and ends, on every input. Only tested: what is printed.
 //! Trusted: the toolchain and the C library.
+#![tactic(auto)]
+
 use jobs::faults::JobFault;
-use jobs::matching::match_orders;
+use jobs::matching::{MarketKind, match_orders};
 use jobs::paging::page_orders;
-use play_words::script::MarketKind;
 use plays::playing::play_script;
 use std::alloc::{AllocError, Global};
 use std::{env, fmt, io};

@@ -3,6 +3,7 @@
 //! Proved: a day takes exactly the bytes that are a good command, steps its market by it and numbers
 //! its notices without a gap; input of every length and content is worked to an end.
 //! Trusted: the toolchain.
+#![tactic(auto)]
 
 pub mod day;
 pub mod input;

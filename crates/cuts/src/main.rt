@@ -4,6 +4,8 @@
 //! drive and on a mirror of two, whose halves lose their power in turn. Each line is a call of the drive that loses its
 //! power; on it stands, for each plan in order, what the two sectors read as after the wake (`-` for torn). What is
 //! printed is tested, not proved.
+#![tactic(auto)]
+
 use device::Device;
 use device::run::Operation;
 use drives::Drive;

@@ -5,10 +5,10 @@ use Rattle.device.specs.declared.fault.DeviceFault.TheVariants.{OutOfRange, Cut,
 use Rattle.device.specs.declared.fault.DeviceFault.{DeviceFault}
 use Rattle.device.specs.declared.run.Operation.{Operation}
 use Rattle.device.specs.declared.run.Operation.TheVariants.{Read, Write, Sync, Wake}
-use Rattle.device.specs.Meaning.{Meaning, Reading, bytes, torn, ◌∈◌, Lawful}
-use Rattle.device.specs.Calls.{Answer, Kept, Joined, Moved, WasCut, Written, Synced, Woken, DidRead, DidWrite}
-use Rattle.device.specs.Runs.{Performed, CutBy, DidPerform, answer_unless_cut, asks, Ran, CutIn, DidRun, Adds, SomeAdds, Grown}
-use Rattle.device.specs.Laws.{OnlyWritesAdd, OneContentEach, RunsGrow, Settled, SettledLasts, RunsJoin}
+use Rattle.device.specs.Meaning.{Meaning, Reading, ◌∈◌, Lawful}
+use Rattle.device.specs.Calls.{Answer, Kept, Moved, DidRead, DidWrite}
+use Rattle.device.specs.Runs.{Performed, CutBy, DidPerform, answer_unless_cut, asks, Ran, CutIn, DidRun, Adds, Grown}
+use Rattle.device.specs.Laws.{OnlyWritesAdd, OneContentEach, RunsGrow, SettledLasts, RunsJoin}
 
 -- what a call did, as an operation
 pub read_performs : (m n : Meaning) (at : ℕ) (old : List ℕ) (r : Answer) (new : List ℕ) → DidRead m at old r new n → DidPerform m (Read at) (answer_unless_cut r) n

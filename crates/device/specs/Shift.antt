@@ -1,5 +1,5 @@
 -- The sectors of a device from a base on. Assumes nothing.
-use Rattle.std.specs.Prelude.{ℕ, ◌+◌, ◌-◌, ◌<◌, ◌≤◌, Ok, Err}
+use Rattle.std.specs.Prelude.{ℕ, ◌+◌, ◌-◌, Ok, Err}
 use Rattle.std.proofs.Common.{arith}
 use Rattle.device.specs.Meaning.{Meaning, Lawful}
 use Rattle.device.specs.Calls.{Answer}

@@ -7,6 +7,8 @@
 //!
 //! Proved: `Offset` keeps the meaning over any device; `run` performs a list of operations in order until one is cut;
 //! the laws that users lean on (specs/Laws) hold of every device. Nothing is trusted but the toolchain.
+#![tactic(auto)]
+
 ghost use Rattle.std.specs.Prelude.{◌≡◌, ℕ, ◌<◌, ◌≤◌};
 ghost use Rattle.device.specs.Calls.{DidRead, DidSync, DidWrite, Woken};
 ghost use Rattle.device.specs.Meaning.{Lawful, Meaning};

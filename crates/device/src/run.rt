@@ -30,8 +30,8 @@ fn unless_cut(answer: Result<(), DeviceFault>) -> Result<(), DeviceFault>
 
 /// Performs one operation. Only a cut is answered as a fault: what is refused for another reason changes nothing.
 pub fn perform<D: Device>(device: &mut D, operation: &Operation) -> Result<(), DeviceFault>
-    ensures did { DidPerform (meaning device.old) operation.now result (meaning device.new) }
-    ensures kept { lender device.new ≡ lender device.old }
+    ensures did { DidPerform (D.meaning device.old) operation.now result (D.meaning device.new) }
+    ensures kept { D.lender device.new ≡ D.lender device.old }
 {
     match *operation {
         Operation::Read(sector) => {
@@ -49,9 +49,9 @@ pub fn perform<D: Device>(device: &mut D, operation: &Operation) -> Result<(), D
 
 /// Performs the operations of a list in order until one is cut.
 pub fn run<D: Device>(device: &mut D, script: &[Operation]) -> Result<(), DeviceFault>
-    ensures did { DidRun (meaning device.old) script.now result (meaning device.new) }
-    ensures grown { Grown (meaning device.old) script.now (meaning device.new) }
-    ensures kept { lender device.new ≡ lender device.old }
+    ensures did { DidRun (D.meaning device.old) script.now result (D.meaning device.new) }
+    ensures grown { Grown (D.meaning device.old) script.now (D.meaning device.new) }
+    ensures kept { D.lender device.new ≡ D.lender device.old }
 {
     for operation in script {
         perform(device, operation)?;

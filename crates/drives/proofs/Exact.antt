@@ -1,17 +1,17 @@
 -- What a drive does to the byte is what a device may do.
-use Rattle.std.proofs.Common.{◌≡◌, ℕ, ◌<◌, ◌≤◌, Bool, true, false, cond, ltb, List, [], ◌∷◌, ◌++◌, length, Some, None, Ok, Err, Option, sym, refl, ap, ◌∙◌, subst, append-nil, arith}
+use Rattle.std.proofs.Common.{◌≡◌, ℕ, ◌<◌, Bool, true, false, ltb, List, [], length, Some, None, Ok, Err, Option, sym, refl, ap, ◌∙◌, subst, append-nil}
 use Rattle.std.proofs.lemmas.Bool.{ltb-true, ltb-false}
-use Rattle.device.specs.Meaning.{Meaning, Reading, bytes, torn}
+use Rattle.device.specs.Meaning.{Reading, bytes, torn}
 use Rattle.device.specs.Calls.{Answer, DidRead, DidWrite, DidSync, Woken, WasCut, Kept, Joined, Written, Synced}
 use Rattle.device.specs.declared.fault.DeviceFault.TheVariants.{OutOfRange, Cut, Torn}
 use Rattle.image.specs.Image.{size_of, filled}
-use Rattle.image.specs.Fuses.{cutting, counted}
-use Rattle.image.specs.Waiting.{meant, settled, put_all, put_some, over, staying}
+use Rattle.image.specs.Fuses.{cutting}
+use Rattle.image.specs.Waiting.{meant, settled}
 use Rattle.image.specs.declared.fuse.Fuse.{Fuse}
 use Rattle.image.specs.declared.fuse.Plan.{Plan}
 use Rattle.image.specs.declared.pending.Pending.{Pending}
 use Rattle.image.proofs.Meanings.{admitted, emptied as all-down, cut_settled, cut_settled_write, cut_dark, cut_dark_write, woken, seen_inside}
-use Rattle.drives.specs.Drives.{State, state, meaning_of, gate_of, gate_at, by_plan, ticked, cut_off, ticks, takes, emptied, ReadBy, DriveRead, WriteBy, DriveWrite, SyncBy, DriveSync, read_answer, newest, roused}
+use Rattle.drives.specs.Drives.{State, meaning_of, gate_of, gate_at, by_plan, cut_off, ReadBy, DriveRead, WriteBy, DriveWrite, SyncBy, DriveSync, read_answer, newest, roused}
 use Rattle.drives.specs.declared.gate.Gate.{Gate}
 use Rattle.drives.specs.declared.gate.Gate.TheVariants.{Past, Dark, Blown, Through}
 

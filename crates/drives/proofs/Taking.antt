@@ -3,7 +3,7 @@ use Rattle.std.proofs.Common.{◌≡◌, ℕ, ltb, List, [], ◌∷◌, ◌++◌
 use Rattle.image.specs.Image.{size_of}
 use Rattle.image.specs.Waiting.{put_some, over, staying}
 use Rattle.image.specs.declared.pending.Pending.{Pending}
-use Rattle.drives.specs.Drives.{State, state, gate_of, gate_at, ticked, takes, WriteBy, DriveWrite}
+use Rattle.drives.specs.Drives.{state, gate_of, gate_at, ticked, takes, WriteBy, DriveWrite}
 use Rattle.drives.specs.declared.drive.Drive.{Drive}
 use Rattle.drives.specs.declared.gate.Gate.{Gate}
 use Rattle.drives.specs.declared.gate.Gate.TheVariants.{Through}

@@ -1,5 +1,5 @@
 -- Fuses put on one after another. Assumes nothing.
-use Rattle.std.specs.Prelude.{◌≡◌, Bool, true, false, List, [], ◌∷◌, Some, None, Option}
+use Rattle.std.specs.Prelude.{◌≡◌, Bool, true, false, List, [], ◌∷◌, Some}
 use Rattle.image.specs.declared.fuse.Fuse.{Fuse}
 use Rattle.drives.specs.Drives.{State, fused, roused}
 

@@ -5,6 +5,8 @@
 //!
 //! Proved: a drive keeps the meaning of a device (crate `device`), and beside it image bytes, waiting writes, power and
 //! fuse after every call are exactly those of specs/Drives, a cut included. Nothing is trusted but the toolchain.
+#![tactic(auto)]
+
 pub use drive::{Direct, Drive, WriteBack};
 pub use schedule::Schedule;
 

@@ -1,5 +1,5 @@
 -- A call whose device call is cut answers that, and resets the exchange; and what becomes of tokens and lists.
-use Rattle.std.proofs.Common.{◌≡◌, ℕ, Bool, true, ◌⊎◌, List, ◌++◌, length, take, Ok, Err, sym, refl, ap, ◌∙◌, subst, inl, inr, arith}
+use Rattle.std.proofs.Common.{◌≡◌, ℕ, Bool, true, ◌⊎◌, List, ◌++◌, length, take, Err, sym, ap, ◌∙◌, subst, inl, inr, arith}
 use Rattle.std.proofs.lemmas.List.{take_at}
 use Rattle.records.specs.Notices.{counted}
 use Rattle.records.specs.declared.notices.Notice.{Notice}

@@ -1,5 +1,5 @@
 -- What open and replay meet on the device.
-use Rattle.std.proofs.Common.{◌≡◌, ℕ, suc, true, List, [], ◌∷◌, Ok, Err, sym, refl, ap, ◌∙◌, subst, inl, inr}
+use Rattle.std.proofs.Common.{◌≡◌, ℕ, suc, true, [], ◌∷◌, Err, sym, refl, ap, ◌∙◌, subst, inl, inr}
 use Rattle.device.specs.Meaning.{Meaning, Lawful}
 use Rattle.device.specs.Runs.{Ran}
 use Rattle.device.specs.declared.fault.DeviceFault.TheVariants.{OutOfRange, Cut, Torn}

@@ -10,7 +10,7 @@ use Rattle.exchange.specs.declared.tokens.Receipt.{Receipt}
 use Rattle.exchange.specs.Answers.{ticket_said, replay_said, ReplayList}
 use Rattle.protocol.specs.Faults.{plain, first_fit}
 use Rattle.protocol.specs.Worlds.{Rules, World}
-use Rattle.protocol.specs.Steps.{State, Handed, Event, Stage, Write, Snapshot, Open, Replay, Step, SetsUp, world_of, refused, stage_reasons, write_reasons, snapshot_reasons, open_reasons, replay_reasons}
+use Rattle.protocol.specs.Steps.{State, Stage, Write, Snapshot, Open, Replay, Step, SetsUp, world_of, refused, stage_reasons, write_reasons, snapshot_reasons, open_reasons, replay_reasons}
 
 module _ {S : Type 0} (w : World S) (x : State S) (r : Refusal) where
   pub stage_refused : (bs : List ℕ) (a : Result CommandNumber ExchangeFault) → first_fit (stage_reasons w x bs) ≡ Some r → IsErrAnd a (λ y. y ≡ plain r) → Step w x (Stage bs a) x

@@ -1,5 +1,5 @@
 -- What an answer says, without the token in it, and which tokens come back.
-use Rattle.std.specs.Prelude.{◌≡◌, ℕ, ◌⊎◌, List, take, Some, None, Ok, Err, Option, Result, ◌≢◌}
+use Rattle.std.specs.Prelude.{◌≡◌, ◌⊎◌, List, take, Some, None, Ok, Err, Option, Result, ◌≢◌}
 use Rattle.records.specs.declared.notices.Notice.{Notice}
 use Rattle.market.specs.Lists.{over}
 use Rattle.protocol.specs.declared.tokens.TicketNumbers.{TicketNumbers}

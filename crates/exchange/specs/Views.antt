@@ -1,10 +1,9 @@
 -- An exchange as the exchange on paper.
-use Rattle.std.specs.Prelude.{vec_items, Result}
+use Rattle.std.specs.Prelude.{vec_items}
 use Rattle.market.specs.declared.interface.Market as market
 use Rattle.device.specs.declared.Device as device
-use Rattle.protocol.specs.declared.faults.ExchangeFault.{ExchangeFault}
 use Rattle.protocol.specs.Worlds.{rules_of}
-use Rattle.protocol.specs.Steps.{State, Event, Does, SetsUp}
+use Rattle.protocol.specs.Steps.{State, Event, Does}
 use Rattle.exchange.specs.declared.state.Exchange.{Exchange}
 
 module _ {M D : Type 0} (m : market.Ghosts M) (d : device.Ghosts D) where

@@ -112,7 +112,7 @@ impl<M: Market, D: Device> Exchange<M, D> {
         requires few { self.old.commands.0 + commands ≤ 1000000000000 }
         requires told { notices ≤ 64 * commands }
         requires next { waits next 0 ≡ true }
-        ensures counted { view M.Market D.Device self.new ≡ one_more next commands notices (means self.old.market) (view M.Market D.Device self.old) }
+        ensures counted { view M.Market D.Device self.new ≡ one_more next commands notices (M.means self.old.market) (view M.Market D.Device self.old) }
         ensures receipt { result ≡ record { house = self.old.house; page = record { 0 = suc self.old.pages.0 }; first = record { 0 = suc self.old.commands.0 }; commands = commands; notice = record { 0 = suc self.old.notices.0 }; notices = notices } }
         ensures kept { self.new.device ≡ self.old.device }
     {
@@ -135,7 +135,7 @@ impl<M: Market, D: Device> Exchange<M, D> {
     /// Writes the staged commands as the next page, and answers a ticket.
     pub fn write(&mut self) -> Result<Ticket, ExchangeFault>
         ensures did { Called M.Market D.Device self.old (Write (ticket_said result)) self.new }
-        ensures kept { lender self.new.device ≡ lender self.old.device }
+        ensures kept { D.lender self.new.device ≡ D.lender self.old.device }
     {
         let way = self.judge_write()?;
         let head = self.next_head();
@@ -177,7 +177,7 @@ impl<M: Market, D: Device> Exchange<M, D> {
         ensures did { Called M.Market D.Device self.old (Sync ticket.numbers (length list.old) (sync_said result list.new)) self.new }
         ensures back { TicketBack ticket result }
         ensures list { SyncList list.old result list.new }
-        ensures kept { lender self.new.device ≡ lender self.old.device }
+        ensures kept { D.lender self.new.device ≡ D.lender self.old.device }
     {
         match self.judge_sync(&ticket, list.len()) {
             Ok(next) => {
@@ -204,7 +204,7 @@ impl<M: Market, D: Device> Exchange<M, D> {
     /// page are then covered.
     pub fn snapshot(&mut self) -> Result<(), ExchangeFault>
         ensures did { Called M.Market D.Device self.old (Snapshot result) self.new }
-        ensures kept { lender self.new.device ≡ lender self.old.device }
+        ensures kept { D.lender self.new.device ≡ D.lender self.old.device }
     {
         self.phase = self.judge_snapshot()?;
         let mut body = [0; 1536];
@@ -227,7 +227,7 @@ impl<M: Market, D: Device> Exchange<M, D> {
     /// Sets a dark exchange up: clears its device, writes the first snapshot, and is live.
     pub fn set_up(&mut self) -> Result<(), ExchangeFault>
         ensures did { SetsUp (rules_of M.Market) (view M.Market D.Device self.old) result (view M.Market D.Device self.new) }
-        ensures kept { lender self.new.device ≡ lender self.old.device }
+        ensures kept { D.lender self.new.device ≡ D.lender self.old.device }
     {
         let way = self.judge_start(Asked::SetUp)?;
         self.restart();
@@ -250,7 +250,7 @@ impl<M: Market, D: Device> Exchange<M, D> {
     fn take_up(&mut self, next: Phase, first: SlotHeader)
         requires next { next ≡ Replaying }
         requires counts { counts_good first.header ≡ true }
-        ensures taken { view M.Market D.Device self.new ≡ taking (world_of (rules_of M.Market) (view M.Market D.Device self.old)) first.slot first.header (means self.old.market) (meaning self.old.device) }
+        ensures taken { view M.Market D.Device self.new ≡ taking (world_of (rules_of M.Market) (view M.Market D.Device self.old)) first.slot first.header (M.means self.old.market) (D.meaning self.old.device) }
         ensures kept { self.new.device ≡ self.old.device }
     {
         self.phase = next;
@@ -267,7 +267,7 @@ impl<M: Market, D: Device> Exchange<M, D> {
     /// that it covers. Replay goes on from there.
     pub fn open(&mut self) -> Result<PageNumber, ExchangeFault>
         ensures did { Called M.Market D.Device self.old (Open result) self.new }
-        ensures kept { lender self.new.device ≡ lender self.old.device }
+        ensures kept { D.lender self.new.device ≡ D.lender self.old.device }
     {
         let way = self.judge_start(Asked::Open)?;
         match open_snapshot(&mut self.device, &mut self.market, self.house) {
@@ -301,7 +301,7 @@ impl<M: Market, D: Device> Exchange<M, D> {
     pub fn replay(&mut self, list: &mut [Notice]) -> Result<Option<Receipt>, ExchangeFault>
         ensures did { Called M.Market D.Device self.old (Replay (length list.old) (replay_said result list.new)) self.new }
         ensures list { ReplayList list.old result list.new }
-        ensures kept { lender self.new.device ≡ lender self.old.device }
+        ensures kept { D.lender self.new.device ≡ D.lender self.old.device }
     {
         let way = self.judge_replay(list.len())?;
         let head = self.next_head();

@@ -48,7 +48,7 @@ impl<M: Market, D: Device> Exchange<M, D> {
 
     pub(crate) fn judge_write(&self) -> Result<Way, Refusal>
         ensures judged { Judged (write_reasons (world_of (rules_of M.Market) (view M.Market D.Device self.now)) (view M.Market D.Device self.now)) result }
-        ensures allowed { IfOk result (λ w. (w.next ≡ Written) × (1 ≤ vec_len self.now.staged) × (w.layout.size ≡ (meaning self.now.device).size)) }
+        ensures allowed { IfOk result (λ w. (w.next ≡ Written) × (1 ≤ vec_len self.now.staged) × (w.layout.size ≡ (D.meaning self.now.device).size)) }
     {
         let next = next_phase(self.phase, Asked::Write)?;
         if self.staged.is_empty() {
@@ -120,7 +120,7 @@ impl<M: Market, D: Device> Exchange<M, D> {
     pub(crate) fn judge_start(&self, asked: Asked) -> Result<Way, Refusal>
         requires { starts asked ≡ true }
         ensures judged { Judged (open_reasons (world_of (rules_of M.Market) (view M.Market D.Device self.now)) (view M.Market D.Device self.now)) result }
-        ensures allowed { IfOk result (λ w. (w.next ≡ started asked) × (w.layout.size ≡ (meaning self.now.device).size) × (9 ≤ (meaning self.now.device).size) × (size_good (meaning self.now.device).size ≡ true)) }
+        ensures allowed { IfOk result (λ w. (w.next ≡ started asked) × (w.layout.size ≡ (D.meaning self.now.device).size) × (9 ≤ (D.meaning self.now.device).size) × (size_good (D.meaning self.now.device).size ≡ true)) }
     {
         if self.house.0 == 0 {
             return Err(Refusal::NoHouse);
@@ -136,7 +136,7 @@ impl<M: Market, D: Device> Exchange<M, D> {
 
     pub(crate) fn judge_replay(&self, room: usize) -> Result<Way, Refusal>
         ensures judged { Judged (replay_reasons (world_of (rules_of M.Market) (view M.Market D.Device self.now)) (view M.Market D.Device self.now) room) result }
-        ensures allowed { IfOk result (λ w. (w.next ≡ Replaying) × (self.now.phase ≡ Replaying) × (1024 ≤ room) × (w.layout.size ≡ (meaning self.now.device).size)) }
+        ensures allowed { IfOk result (λ w. (w.next ≡ Replaying) × (self.now.phase ≡ Replaying) × (1024 ≤ room) × (w.layout.size ≡ (D.meaning self.now.device).size)) }
     {
         let next = next_phase(self.phase, Asked::Replay)?;
         if room < 1024 {

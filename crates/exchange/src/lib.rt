@@ -4,6 +4,8 @@
 //! gives, and what phase, staging, counts, mark, covered page and slot, market and device then hold; what becomes of lent
 //! lists, and which tokens come back. So every caller has the promises for its own run (`promises_stand`).
 //! Trusted: the toolchain.
+#![tactic(auto)]
+
 pub mod calls;
 mod judging;
 pub mod making;

@@ -32,7 +32,7 @@ pub struct Status {
 impl<M: Market, D: Device + Drop> Exchange<M, D> {
     /// A new exchange, which is reset, with all the memory that it will need.
     pub fn new(heap: Global, house: HouseNumber, device: D) -> Result<Exchange<M, D>, AllocError>
-        ensures { IfOk result (λ x. (view M.Market D.Device x ≡ reset (record { house = house; size = (meaning device).size; rules = rules_of M.Market }) (meaning device)) × (x.device ≡ device)) }
+        ensures { IfOk result (λ x. (view M.Market D.Device x ≡ reset (record { house = house; size = (D.meaning device).size; rules = rules_of M.Market }) (D.meaning device)) × (x.device ≡ device)) }
     {
         Ok(Exchange {
             house,

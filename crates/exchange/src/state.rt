@@ -13,7 +13,7 @@ use records::numbers::{CommandNumber, HouseNumber, NoticeNumber, PageNumber};
 /// An exchange over a market and a device. Its own numbers go together (the ghost fields); what ties them to the market and
 /// the device is proved over runs.
 #[derive(Drop)]
-pub struct Exchange<M: Market, D: Device> {
+pub struct Exchange<M, D> {
     pub(crate) house: HouseNumber,
     pub(crate) phase: Phase,
     pub(crate) staged: Vec<Command>,

@@ -1,23 +1,14 @@
 -- Worked figures.
-use Rattle.std.specs.Prelude.{◌≡◌, ℕ, true, false, List, [], ◌∷◌, Some, None}
+use Rattle.std.specs.Prelude.{◌≡◌, ℕ, true, false, [], ◌∷◌, Some}
 use Rattle.records.specs.Commands.{good, encoded, decoded}
 use Rattle.records.specs.declared.commands.Side.{Side}
 use Rattle.records.specs.declared.commands.Side.TheVariants.{Buy, Sell}
 use Rattle.records.specs.declared.commands.Command.{Command}
 use Rattle.records.specs.declared.commands.Command.TheVariants.{Enter, Cancel, Cross}
-use Rattle.records.specs.declared.notices.Notice.{Notice}
 use Rattle.market.specs.declared.orders.Order.{Order}
 use Rattle.market.specs.Orders.{fill}
 use Rattle.market.specs.Resting.{Resting, nothing}
 use Rattle.journal.specs.Places.{size_good, page_place}
-use Rattle.records.specs.declared.refusals.Refusal.TheVariants.{DeviceSize, JournalFull, NotACommand}
-use Rattle.device.specs.Meaning.{Meaning}
-use Rattle.journal.specs.declared.slots.Slot.TheVariants.{Zero}
-use Rattle.protocol.specs.declared.phases.Phase.{Phase}
-use Rattle.protocol.specs.declared.phases.Phase.TheVariants.{Live, Dark}
-use Rattle.protocol.specs.Faults.{first_fit}
-use Rattle.protocol.specs.Worlds.{Rules, World}
-use Rattle.protocol.specs.Steps.{State, open_reasons, write_reasons, stage_reasons}
 use Rattle.book.specs.Steps.{book_step}
 use Rattle.call.specs.Steps.{call_step}
 
@@ -35,14 +26,6 @@ one_buy = (book_step nothing (enter 1 Buy 104 20)).0
 abbrev pub three_orders : Resting
 three_orders = (call_step (call_step (call_step nothing (enter 1 Buy 105 10)).0 (enter 2 Buy 101 5)).0 (enter 3 Sell 101 10)).0
 
--- an exchange of house 7 over so many sectors
-abbrev pub sectors : ℕ → Rules Resting → World Resting
-sectors n r = record { house = record { 0 = 7 }; size = n; rules = r }
-
--- in this phase, with these commands staged, after so many pages of one command each, of which a snapshot covers the first
-abbrev pub exchange : Phase → List Command → ℕ → ℕ → Rules Resting → Meaning → State Resting
-exchange p cs pages covered r m = record { house = record { 0 = 7 }; phase = p; staged = cs; pages = pages; commands = pages; notices = 0; mark = 0; covered = covered; slot = Zero; market = r.start; device = m }
-
 pub record Figures : Type 0 where
   -- a cross is the bytes 04 00 0D 00
   pub cross : encoded Cross ≡ 4 ∷ (0 ∷ (13 ∷ (0 ∷ [])))
@@ -52,20 +35,10 @@ pub record Figures : Type 0 where
   -- 8 sectors are too few, 9 are enough
   pub too_few : size_good 8 ≡ false
   pub enough : size_good 9 ≡ true
-  -- so set up and open give reason 2 on 8 sectors, and pass on 9
-  pub refused : (r : Rules Resting) (m : Meaning) → first_fit (open_reasons (sectors 8 r) (exchange Dark [] 0 0 r m)) ≡ Some DeviceSize
-  pub passes : (r : Rules Resting) (m : Meaning) → first_fit (open_reasons (sectors 9 r) (exchange Dark [] 0 0 r m)) ≡ None
-  -- with 9 sectors the second page gets reason 8, until a snapshot covers the first
-  pub full : (r : Rules Resting) (m : Meaning) → first_fit (write_reasons (sectors 9 r) (exchange Live (Cross ∷ []) 1 0 r m)) ≡ Some JournalFull
-  pub covered : (r : Rules Resting) (m : Meaning) → first_fit (write_reasons (sectors 9 r) (exchange Live (Cross ∷ []) 1 1 r m)) ≡ None
   -- a price of 1,000,000 is good, of 0 and of 1,000,001 is not
   pub highest : good (enter 1 Buy 1_000_000 1) ≡ true
   pub free : good (enter 1 Buy 0 1) ≡ false
   pub above : good (enter 1 Buy 1_000_001 1) ≡ false
-  -- so the first is staged, and the others get reason 4
-  pub staged : (r : Rules Resting) (m : Meaning) → first_fit (stage_reasons (sectors 9 r) (exchange Live [] 0 0 r m) (encoded (enter 1 Buy 1_000_000 1))) ≡ None
-  pub not_free : (r : Rules Resting) (m : Meaning) → first_fit (stage_reasons (sectors 9 r) (exchange Live [] 0 0 r m) (encoded (enter 1 Buy 0 1))) ≡ Some NotACommand
-  pub not_above : (r : Rules Resting) (m : Meaning) → first_fit (stage_reasons (sectors 9 r) (exchange Live [] 0 0 r m) (encoded (enter 1 Buy 1_000_001 1))) ≡ Some NotACommand
   -- a sell of 5 lots at 103 meets the buy at 104: one fill of 5 lots at 104, and 15 lots of the buy rest
   pub fills : (book_step one_buy (enter 2 Sell 103 5)).1 ≡ fill (record { 0 = 2 }) (order 1 1 104 20) (order 2 2 103 5) (record { 0 = 104 }) 5 ∷ []
   pub rests : (book_step one_buy (enter 2 Sell 103 5)).0 ≡ record { last = 2; buys = order 1 1 104 15 ∷ []; sells = [] }

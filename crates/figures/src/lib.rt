@@ -2,6 +2,8 @@
 //!
 //! Proved: `figures_stand` has them all in its contract, each computed from the definitions that the
 //! calls' contracts name. Tested: the same figures, by calls.
+#![tactic(auto)]
+
 ghost use Rattle.std.specs.Prelude.{◌≡◌, [], ◌∷◌};
 ghost use Rattle.records.specs.Buffers.{written};
 ghost use Rattle.figures.specs.Figures.{Figures};
@@ -56,7 +58,8 @@ mod tests {
 
     #[test]
     fn cross_is_four_bytes(rt: HostRuntime) {
-        assert_eq!(rt; Command::Cross.encode().as_bytes(), &[4, 0, 13, 0]);
+        let cross = [4, 0, 13, 0];
+        assert_eq!(rt; Command::Cross.encode().as_bytes(), cross.as_slice());
         assert!(rt; Command::decode(&[4, 0, 13, 0]).is_ok());
         assert!(rt; Command::decode(&[4, 0, 13]).is_err());
     }

@@ -1,12 +1,12 @@
 -- A receipt that was answered in a run.
-use Rattle.std.specs.Prelude.{◌≡◌, ℕ, List, ◌++◌, Some, Ok}
+use Rattle.std.specs.Prelude.{◌≡◌, ℕ, ◌++◌, Some, Ok}
 use mathlib.Core.List.{Memᴰ}
 use Rattle.market.specs.declared.interface.Market as market
 use Rattle.device.specs.declared.Device as device
 use Rattle.protocol.specs.declared.tokens.ReceiptNumbers.{ReceiptNumbers}
 use Rattle.protocol.specs.declared.tokens.TicketNumbers.{TicketNumbers}
 use Rattle.protocol.specs.Worlds.{rules_of}
-use Rattle.protocol.specs.Steps.{Handed, Event, Sync, Replay}
+use Rattle.protocol.specs.Steps.{Handed, Sync, Replay}
 use Rattle.protocol.specs.Promises as promises
 use Rattle.exchange.specs.declared.state.Exchange.{Exchange}
 use Rattle.exchange.specs.Views.{view}

@@ -3,6 +3,8 @@
 //!
 //! Proved: whatever receipt comes again for a page, on any device and market, wherever the power failed, is the one that was
 //! held. Trusted: the toolchain.
+#![tactic(auto)]
+
 ghost use Rattle.std.specs.Prelude.{◌≡◌, IfSome};
 ghost use Rattle.protocol.specs.Steps.{Shelve};
 ghost use Rattle.exchange.specs.Views.{Called};

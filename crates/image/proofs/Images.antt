@@ -1,8 +1,8 @@
 -- What a write at a place of an image does to what the image reads as.
-use Rattle.std.proofs.Common.{◌≡◌, ℕ, suc, ◌+◌, ◌-◌, ◌<◌, ◌≤◌, ◌⊎◌, List, [], ◌∷◌, ◌++◌, length, get_or, take, drop, set, sym, refl, ap, ◌∙◌, inl, inr, arith}
-use Rattle.std.proofs.lemmas.List.{append_assoc, get_or_at, get_or_append_left, get_or-append_right, get_or-take, get_or-drop, get_or-set_same, get_or-set_other, set_split, take-append-drop, take-append-le, drop-append-le, take_at, drop_at, length-take-le, length-append, length-take, length-drop, length-set, drop-set-lt}
+use Rattle.std.proofs.Common.{◌≡◌, ℕ, suc, ◌+◌, ◌-◌, ◌<◌, ◌≤◌, ◌⊎◌, List, [], ◌∷◌, ◌++◌, length, get_or, take, drop, set, sym, ap, ◌∙◌, inl, inr, arith}
+use Rattle.std.proofs.lemmas.List.{append_assoc, get_or_at, get_or_append_left, get_or-append_right, get_or-take, get_or-drop, get_or-set_same, get_or-set_other, set_split, take-append-drop, take-append-le, drop-append-le, take_at, drop_at, length-take-le, length-append, length-take, length-drop, drop-set-lt}
 use Rattle.std.proofs.lemmas.Slice.{drop-append-drop}
-use Rattle.device.specs.Meaning.{Reading, bytes, torn}
+use Rattle.device.specs.Meaning.{bytes, torn}
 use Rattle.image.specs.Image.{reading_at, list_put_at}
 
 -- a part of a list that ends before `at` does not depend on what stands from there on

@@ -2,9 +2,9 @@
 use Rattle.std.proofs.Common.{◌≡◌, ℕ, ◌<◌, ◌≤◌, Bool, true, false, cond, ◌&&◌, ◌||◌, eqb, ltb, ◌⊎◌, List, [], ◌∷◌, ◌++◌, length, Some, None, Option, sym, refl, ap, ◌∙◌, subst, inl, inr, ⊎_elim, arith, eq-eqb, ne_eqb, eqb-true}
 use borrow.Author.Tests.{clash}
 use Rattle.std.proofs.lemmas.Bool.{or_left, or_right, or_cases, and_from, and_parts, cases_eq, cases_Bool, cond-true, cond-false}
-use Rattle.device.specs.Meaning.{Meaning, Reading, bytes, torn, ◌∈◌, Lawful}
+use Rattle.device.specs.Meaning.{Meaning, Reading, bytes, torn, Lawful}
 use Rattle.device.specs.Calls.{Moved, WasCut, Written, Synced, Woken, Kept, Joined}
-use Rattle.image.specs.Image.{size_of, reading, seen, list_put_at, same, only}
+use Rattle.image.specs.Image.{size_of, reading, seen, same}
 use Rattle.image.specs.Fuses.{fate, later}
 use Rattle.image.specs.Waiting.{whole, put_down, put_all, leaves, some_leaves, meant, landed, settled, over, staying, put_some, newest_from}
 use Rattle.image.specs.declared.fuse.Plan.{Plan}

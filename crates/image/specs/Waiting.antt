@@ -1,5 +1,5 @@
 -- What an image means while writes wait to be put down, the oldest first. Assumes nothing.
-use Rattle.std.specs.Prelude.{ℕ, ◌*◌, Bool, true, false, cond, ◌&&◌, ◌||◌, List, [], ◌∷◌, length, Some, None, Option, ◌==◌, nat_lt, slice_set}
+use Rattle.std.specs.Prelude.{ℕ, ◌*◌, Bool, false, cond, ◌&&◌, ◌||◌, List, [], ◌∷◌, length, Some, None, Option, ◌==◌, nat_lt, slice_set}
 use Rattle.device.specs.Meaning.{Meaning, Reading, bytes, torn}
 use Rattle.image.specs.Image.{size_of, reading, list_put_at, same}
 use Rattle.image.specs.Fuses.{fate, later}

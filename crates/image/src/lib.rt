@@ -5,6 +5,8 @@
 //! reads as, specs/Waiting what image and waiting writes mean together, specs/Fuses how a fuse counts and what the bits
 //! of its plan say. Proved: every function here gives exactly the image, queue or fuse that those definitions name.
 //! Nothing is trusted but the toolchain.
+#![tactic(auto)]
+
 pub use fuse::{Fate, Fuse, Plan};
 pub use pending::Pending;
 pub use queue::Queue;

@@ -4,6 +4,7 @@
 //! spelled is proved in the crates below.
 //! Only tested: what is read from and written to the outside.
 //! Trusted: the toolchain and the C library.
+#![tactic(auto)]
 
 pub mod faults;
 pub mod matching;

@@ -6,7 +6,7 @@ use call::shape::CallAuction;
 use console::day::Day;
 use market::interface::Market;
 use market::orders::Order;
-use play_words::script::MarketKind;
+pub use play_words::script::MarketKind;
 use records::commands::{Command, Side};
 use records::refusals::Refusal;
 use std::io;

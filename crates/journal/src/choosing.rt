@@ -2,7 +2,7 @@
 ghost use Rattle.std.specs.Prelude.{ℕ};
 ghost use Rattle.rank.specs.Ranked.{high_first};
 ghost use Rattle.journal.specs.Choices.{header_key};
-ghost use Rattle.std.proofs.Common.{rules};
+ghost use Rattle.rank.proofs.Pairs.{high_first_chains, high_first_irreflexive, high_first_total};
 
 use crate::slots::Slot;
 use rank::Rank;
@@ -36,11 +36,11 @@ impl Rank<Latest> for SlotHeader {
 
     ghost earlier = { high_first };
 
-    ghost irreflexive = { Prim.search rules };
+    ghost irreflexive = { high_first_irreflexive };
 
-    ghost chains = { Prim.search rules };
+    ghost chains = { high_first_chains };
 
-    ghost total = { Prim.search rules };
+    ghost total = { high_first_total };
 
     fn stands_before(&self, other: &SlotHeader) -> bool {
         self.header.page.0 > other.header.page.0

@@ -5,11 +5,10 @@ use Rattle.records.specs.declared.headers.Header.{Header}
 use Rattle.records.specs.declared.numbers.HouseNumber.{HouseNumber}
 use Rattle.records.specs.Sectors.{zeros}
 use Rattle.records.proofs.HeaderLaws.{zeros_no_header}
-use Rattle.records.proofs.CommandLaws.{which}
 use Rattle.rank.specs.Ranked.{high_first}
 use Rattle.device.specs.Meaning.{Meaning, Lawful, bytes, torn}
-use Rattle.device.specs.Calls.{DidRead, Filled, WasCut, Kept}
-use Rattle.device.specs.Runs.{Performed, CutBy, CutIn}
+use Rattle.device.specs.Calls.{DidRead, Filled}
+use Rattle.device.specs.Runs.{CutBy, CutIn}
 use Rattle.device.specs.declared.fault.DeviceFault.{DeviceFault}
 use Rattle.device.specs.declared.fault.DeviceFault.TheVariants.{OutOfRange, Cut, Torn}
 use Rattle.device.specs.declared.run.Operation.{Operation}
@@ -23,9 +22,9 @@ use Rattle.journal.specs.declared.choosing.Chosen.{Chosen}
 use Rattle.protocol.specs.declared.faults.JournalFault.{JournalFault}
 use Rattle.protocol.specs.declared.faults.JournalFault.TheVariants as fault
 use Rattle.protocol.specs.Faults.{from_device}
-use Rattle.protocol.specs.Worlds.{Rules, World, blank, body_at}
-use Rattle.protocol.specs.Steps.{shown, header_of, first_header}
-use Rattle.journal_io.specs.Readings.{BodyRead, BodyIs, FirstTorn, at_first, at_second, at_third, body_reads, header_reads, HeaderRead, Chose}
+use Rattle.protocol.specs.Worlds.{World, blank, body_at}
+use Rattle.protocol.specs.Steps.{shown, first_header}
+use Rattle.journal_io.specs.Readings.{BodyRead, at_first, at_second, at_third, HeaderRead, Chose}
 
 pub body_within : (t : Slot) (size : ℕ) → 9 ≤ size → body_place t + 2 < size
 body_within Zero size h = omega arith

@@ -1,11 +1,9 @@
 -- A snapshot opened: from what is read after the wake and the sync.
-use Rattle.std.proofs.Common.{◌≡◌, ℕ, true, List, [], ◌∷◌, ◌++◌, IsErrAnd, Some, None, Ok, Err, Option, Result, sym, refl, ap, ◌∙◌, subst}
-use Rattle.records.specs.Headers.{counts_good}
+use Rattle.std.proofs.Common.{◌≡◌, ℕ, true, ◌∷◌, ◌++◌, IsErrAnd, Some, None, Ok, Err, Result, sym, ◌∙◌, subst}
 use Rattle.records.specs.declared.numbers.HouseNumber.{HouseNumber}
 use Rattle.device.specs.Meaning.{Meaning, Lawful}
 use Rattle.device.specs.Runs.{Ran, CutIn}
 use Rattle.device.specs.declared.fault.DeviceFault.TheVariants.{OutOfRange, Cut, Torn}
-use Rattle.device.specs.declared.run.Operation.{Operation}
 use Rattle.device.specs.declared.run.Operation.TheVariants as op
 use Rattle.journal.specs.Slots.{header_place}
 use Rattle.journal.specs.declared.slots.Slot.TheVariants.{Zero, One}
@@ -14,11 +12,11 @@ use Rattle.protocol.specs.declared.faults.JournalFault.{JournalFault}
 use Rattle.protocol.specs.declared.faults.JournalFault.TheVariants as fault
 use Rattle.protocol.specs.declared.faults.ExchangeFault.{ExchangeFault}
 use Rattle.protocol.specs.Worlds.{Rules, World}
-use Rattle.protocol.specs.Steps.{wake_ops, open_ops, first_header, loaded}
+use Rattle.protocol.specs.Steps.{first_header, loaded}
 use Rattle.journal_io.specs.Running.{wake_and_sync}
 use Rattle.journal_io.specs.Readings.{Took, Chose, header_reads, body_reads}
 use Rattle.protocol.specs.Faults.{of_journal}
-use Rattle.journal_io.specs.Opening.{Takes, TakenFirst, NotLoaded, NotTaken, Opens}
+use Rattle.journal_io.specs.Opening.{Takes, NotLoaded, NotTaken, Opens}
 use Rattle.journal_io.proofs.Rows.{then_cut}
 use Rattle.journal_io.proofs.Fetches.{later_cut}
 

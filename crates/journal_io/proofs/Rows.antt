@@ -1,7 +1,7 @@
 -- Rows of device calls: joined, and with their faults wrapped.
-use Rattle.std.proofs.Common.{◌≡◌, ℕ, zero, suc, ◌+◌, ◌<◌, List, [], ◌∷◌, ◌++◌, IsErrAnd, Ok, Err, Result, sym, refl, ap, ◌∙◌, subst, inl, inr, arith}
+use Rattle.std.proofs.Common.{◌≡◌, ℕ, zero, suc, ◌+◌, ◌<◌, List, [], ◌∷◌, ◌++◌, IsErrAnd, Ok, Err, Result, sym, refl, ◌∙◌, subst, inl, inr, arith}
 use Rattle.device.specs.Meaning.{Meaning, Lawful}
-use Rattle.device.specs.Runs.{Performed, CutBy, asks, Ran, CutIn, DidRun, DidPerform}
+use Rattle.device.specs.Runs.{Performed, CutBy, Ran, CutIn, DidRun, DidPerform}
 use Rattle.device.specs.declared.fault.DeviceFault.{DeviceFault}
 use Rattle.device.specs.declared.fault.DeviceFault.TheVariants.{OutOfRange, Cut, Torn}
 use Rattle.device.specs.declared.run.Operation.{Operation}

@@ -1,5 +1,5 @@
 -- A snapshot opened: the device is woken and synced, and what is then read decides.
-use Rattle.std.specs.Prelude.{◌≡◌, ℕ, true, ◌++◌, Some, None, Ok, Err, Result}
+use Rattle.std.specs.Prelude.{◌≡◌, true, ◌++◌, Some, None, Ok, Err, Result}
 use Rattle.records.specs.Headers.{counts_good}
 use Rattle.device.specs.Meaning.{Meaning}
 use Rattle.device.specs.Runs.{Ran, CutIn}

@@ -1,13 +1,12 @@
 -- What is read from a device through the journal.
-use Rattle.std.specs.Prelude.{◌≡◌, ℕ, Bool, true, false, ◌⊎◌, List, [], ◌∷◌, ◌++◌, Some, None, Ok, Err, Option, Result, ◌≢◌}
+use Rattle.std.specs.Prelude.{◌≡◌, ℕ, true, ◌⊎◌, List, [], ◌∷◌, ◌++◌, Some, None, Ok, Err, Option, Result, ◌≢◌}
 use Rattle.records.specs.Headers.{counts_good}
-use Rattle.records.specs.declared.numbers.HouseNumber.{HouseNumber}
 use Rattle.device.specs.Meaning.{Meaning, bytes, torn}
 use Rattle.device.specs.Runs.{CutIn}
 use Rattle.device.specs.declared.fault.DeviceFault.TheVariants.{OutOfRange, Cut, Torn}
 use Rattle.device.specs.declared.run.Operation.{Operation}
 use Rattle.device.specs.declared.run.Operation.TheVariants as op
-use Rattle.journal.specs.Slots.{header_place, body_place}
+use Rattle.journal.specs.Slots.{header_place}
 use Rattle.journal.specs.declared.slots.Slot.{Slot}
 use Rattle.journal.specs.declared.slots.Slot.TheVariants.{Zero, One}
 use Rattle.journal.specs.declared.choosing.SlotHeader.{SlotHeader}

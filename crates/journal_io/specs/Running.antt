@@ -1,5 +1,5 @@
 -- What a row of device calls answers through the journal.
-use Rattle.std.specs.Prelude.{ℕ, List, [], ◌∷◌, ◌++◌, Ok, Err, Result}
+use Rattle.std.specs.Prelude.{ℕ, List, [], ◌∷◌, Ok, Err, Result}
 use Rattle.records.specs.Headers.{header_sector_bytes}
 use Rattle.records.specs.Pages.{page_of, page_sector_bytes}
 use Rattle.records.specs.declared.commands.Command.{Command}
@@ -13,7 +13,6 @@ use Rattle.device.specs.declared.run.Operation.TheVariants as op
 use Rattle.journal.specs.Places.{page_place}
 use Rattle.journal.specs.Slots.{header_place}
 use Rattle.journal.specs.declared.slots.Slot.{Slot}
-use Rattle.journal.specs.declared.slots.Slot.TheVariants.{Zero}
 use Rattle.protocol.specs.declared.faults.JournalFault.{JournalFault}
 use Rattle.protocol.specs.declared.faults.JournalFault.TheVariants as fault
 use Rattle.protocol.specs.Worlds.{blank, body_at}

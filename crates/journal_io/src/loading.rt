@@ -36,9 +36,9 @@ fn join(first: &Sector, second: &Sector, third: &Sector) -> [u8; 1536]
 
 // The body of a slot; a torn sector of it is the device's fault.
 fn read_body<D: Device>(device: &mut D, slot: Slot) -> Result<[u8; 1536], JournalFault>
-    requires { 9 ≤ (meaning device.old).size }
-    ensures did { BodyRead (meaning device.old) slot result (meaning device.new) }
-    ensures kept { lender device.new ≡ lender device.old }
+    requires { 9 ≤ (D.meaning device.old).size }
+    ensures did { BodyRead (D.meaning device.old) slot result (D.meaning device.new) }
+    ensures kept { D.lender device.new ≡ D.lender device.old }
 {
     let at = slot.body_sector();
     let mut first = [0; 512];
@@ -57,7 +57,7 @@ fn take_body<M: Market>(
     at: usize,
     commands: CommandNumber,
 ) -> Result<(), JournalFault>
-    ensures { TakenBy (rules_of M.Market) at commands.0 body.now result (means market.new) }
+    ensures { TakenBy (rules_of M.Market) at commands.0 body.now result (M.means market.new) }
 {
     if market.load(body).is_err() {
         return Err(JournalFault::Refused(at));
@@ -74,9 +74,9 @@ pub fn load_body<M: Market, D: Device>(
     market: &mut M,
     chosen: &SlotHeader,
 ) -> Result<(), JournalFault>
-    requires { 9 ≤ (meaning device.old).size }
-    ensures did { (house : HouseNumber) → Took (record { house = house; size = (meaning device.old).size; rules = rules_of M.Market }) (meaning device.old) chosen.now result (meaning device.new) (means market.new) }
-    ensures kept { lender device.new ≡ lender device.old }
+    requires { 9 ≤ (D.meaning device.old).size }
+    ensures did { (house : HouseNumber) → Took (record { house = house; size = (D.meaning device.old).size; rules = rules_of M.Market }) (D.meaning device.old) chosen.now result (D.meaning device.new) (M.means market.new) }
+    ensures kept { D.lender device.new ≡ D.lender device.old }
 {
     let body = read_body(device, chosen.slot)?;
     take_body(
@@ -89,8 +89,8 @@ pub fn load_body<M: Market, D: Device>(
 
 // Wakes the device, and syncs it.
 fn wake_up<D: Device>(device: &mut D) -> Result<(), JournalFault>
-    ensures did { Running (meaning device.old) wake_and_sync result (meaning device.new) }
-    ensures kept { lender device.new ≡ lender device.old }
+    ensures did { Running (D.meaning device.old) wake_and_sync result (D.meaning device.new) }
+    ensures kept { D.lender device.new ≡ D.lender device.old }
 {
     perform_all(device, &[Operation::Wake, Operation::Sync])
 }
@@ -101,9 +101,9 @@ fn take_first<M: Market, D: Device>(
     market: &mut M,
     house: HouseNumber,
 ) -> Result<SlotHeader, JournalFault>
-    requires { 9 ≤ (meaning device.old).size }
-    ensures did { Takes (record { house = house; size = (meaning device.old).size; rules = rules_of M.Market }) (meaning device.old) result (meaning device.new) (means market.new) }
-    ensures kept { lender device.new ≡ lender device.old }
+    requires { 9 ≤ (D.meaning device.old).size }
+    ensures did { Takes (record { house = house; size = (D.meaning device.old).size; rules = rules_of M.Market }) (D.meaning device.old) result (D.meaning device.new) (M.means market.new) }
+    ensures kept { D.lender device.new ≡ D.lender device.old }
 {
     let first = choose_header::<M, D>(device, house)?;
     load_body(device, market, &first)?;
@@ -116,9 +116,9 @@ pub fn open_snapshot<M: Market, D: Device>(
     market: &mut M,
     house: HouseNumber,
 ) -> Result<SlotHeader, JournalFault>
-    requires { 9 ≤ (meaning device.old).size }
-    ensures did { Opens (record { house = house; size = (meaning device.old).size; rules = rules_of M.Market }) (meaning device.old) result (meaning device.new) (means market.new) }
-    ensures kept { lender device.new ≡ lender device.old }
+    requires { 9 ≤ (D.meaning device.old).size }
+    ensures did { Opens (record { house = house; size = (D.meaning device.old).size; rules = rules_of M.Market }) (D.meaning device.old) result (D.meaning device.new) (M.means market.new) }
+    ensures kept { D.lender device.new ≡ D.lender device.old }
 {
     wake_up(device)?;
     take_first(device, market, house)

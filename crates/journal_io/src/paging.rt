@@ -34,8 +34,8 @@ pub fn put_page<D: Device>(
 ) -> Result<(), JournalFault>
     requires numbers { numbers_good head (length commands.now) ≡ true }
     requires good { all_good commands.now ≡ true }
-    ensures did { Running (meaning device.old) (page_writes layout.now.size head commands.now) result (meaning device.new) }
-    ensures kept { lender device.new ≡ lender device.old }
+    ensures did { Running (D.meaning device.old) (page_writes layout.now.size head commands.now) result (D.meaning device.new) }
+    ensures kept { D.lender device.new ≡ D.lender device.old }
 {
     let bytes = page_bytes(head, commands);
     perform_all(
@@ -50,9 +50,9 @@ pub fn read_page<D: Device>(
     sector: usize,
     head: PageHead,
 ) -> Result<Option<Page>, JournalFault>
-    requires { sector < (meaning device.old).size }
-    ensures did { PageFound (meaning device.old) sector head result (meaning device.new) }
-    ensures kept { lender device.new ≡ lender device.old }
+    requires { sector < (D.meaning device.old).size }
+    ensures did { PageFound (D.meaning device.old) sector head result (D.meaning device.new) }
+    ensures kept { D.lender device.new ≡ D.lender device.old }
 {
     let Some(bytes) = read_sector(device, sector)? else {
         return Ok(None);

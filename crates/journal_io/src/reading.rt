@@ -13,9 +13,9 @@ use records::numbers::HouseNumber;
 
 /// The bytes of a sector, or none where it is torn.
 pub fn read_sector<D: Device>(device: &mut D, sector: usize) -> Result<Option<Sector>, JournalFault>
-    requires { sector < (meaning device.old).size }
-    ensures did { Fetched (meaning device.old) sector result (meaning device.new) }
-    ensures kept { lender device.new ≡ lender device.old }
+    requires { sector < (D.meaning device.old).size }
+    ensures did { Fetched (D.meaning device.old) sector result (D.meaning device.new) }
+    ensures kept { D.lender device.new ≡ D.lender device.old }
 {
     let mut buffer = [0; 512];
     match device.read(sector, &mut buffer) {
@@ -29,9 +29,9 @@ pub fn read_sector<D: Device>(device: &mut D, sector: usize) -> Result<Option<Se
 
 // The sector of a slot's header; zeros, which are no header, where it is torn.
 fn read_header<D: Device>(device: &mut D, slot: Slot) -> Result<Sector, JournalFault>
-    requires { 9 ≤ (meaning device.old).size }
-    ensures did { HeaderRead (meaning device.old) (header_place slot) result (meaning device.new) }
-    ensures kept { lender device.new ≡ lender device.old }
+    requires { 9 ≤ (D.meaning device.old).size }
+    ensures did { HeaderRead (D.meaning device.old) (header_place slot) result (D.meaning device.new) }
+    ensures kept { D.lender device.new ≡ D.lender device.old }
 {
     match read_sector(device, slot.header_sector()) {
         Ok(Some(bytes)) => Ok(bytes),
@@ -45,9 +45,9 @@ pub fn choose_header<M: Market, D: Device>(
     device: &mut D,
     house: HouseNumber,
 ) -> Result<SlotHeader, JournalFault>
-    requires { 9 ≤ (meaning device.old).size }
-    ensures did { Chose (record { house = house; size = (meaning device.old).size; rules = rules_of M.Market }) (meaning device.old) result (meaning device.new) }
-    ensures kept { lender device.new ≡ lender device.old }
+    requires { 9 ≤ (D.meaning device.old).size }
+    ensures did { Chose (record { house = house; size = (D.meaning device.old).size; rules = rules_of M.Market }) (D.meaning device.old) result (D.meaning device.new) }
+    ensures kept { D.lender device.new ≡ D.lender device.old }
 {
     let zero = read_header(device, Slot::Zero)?;
     let one = read_header(device, Slot::One)?;

@@ -27,8 +27,8 @@ fn cut_out(body: &[u8; 1536], i: usize) -> Sector
 
 /// Makes the device calls of a list in order until one is cut.
 pub fn perform_all<D: Device>(device: &mut D, script: &[Operation]) -> Result<(), JournalFault>
-    ensures did { Running (meaning device.old) script.now result (meaning device.new) }
-    ensures kept { lender device.new ≡ lender device.old }
+    ensures did { Running (D.meaning device.old) script.now result (D.meaning device.new) }
+    ensures kept { D.lender device.new ≡ D.lender device.old }
 {
     run(device, script)?;
     Ok(())
@@ -41,8 +41,8 @@ pub fn put_snapshot<D: Device>(
     body: &[u8; 1536],
     header: &Header,
 ) -> Result<(), JournalFault>
-    ensures did { Running (meaning device.old) (snapshot_writes slot body.now header.now) result (meaning device.new) }
-    ensures kept { lender device.new ≡ lender device.old }
+    ensures did { Running (D.meaning device.old) (snapshot_writes slot body.now header.now) result (D.meaning device.new) }
+    ensures kept { D.lender device.new ≡ D.lender device.old }
 {
     let at = slot.body_sector();
     let script = [
@@ -59,8 +59,8 @@ pub fn put_snapshot<D: Device>(
 // Zeros over so many sectors of the journal.
 fn blank_journal<D: Device>(device: &mut D, journal: usize) -> Result<(), JournalFault>
     requires { journal ≤ 4096 }
-    ensures did { Running (meaning device.old) (blanks 8 journal) result (meaning device.new) }
-    ensures kept { lender device.new ≡ lender device.old }
+    ensures did { Running (D.meaning device.old) (blanks 8 journal) result (D.meaning device.new) }
+    ensures kept { D.lender device.new ≡ D.lender device.old }
 {
     for i in 0..journal {
         perform(device, &Operation::Write(8 + i, BLANK))?;
@@ -70,8 +70,8 @@ fn blank_journal<D: Device>(device: &mut D, journal: usize) -> Result<(), Journa
 
 // Wakes the device, and clears both headers.
 fn clear_headers<D: Device>(device: &mut D) -> Result<(), JournalFault>
-    ensures did { Running (meaning device.old) first_writes result (meaning device.new) }
-    ensures kept { lender device.new ≡ lender device.old }
+    ensures did { Running (D.meaning device.old) first_writes result (D.meaning device.new) }
+    ensures kept { D.lender device.new ≡ D.lender device.old }
 {
     let script = [
         Operation::Wake,
@@ -84,8 +84,8 @@ fn clear_headers<D: Device>(device: &mut D) -> Result<(), JournalFault>
 // The same, and clears the journal.
 fn clear_all<D: Device>(device: &mut D, journal: usize) -> Result<(), JournalFault>
     requires { journal ≤ 4096 }
-    ensures did { Running (meaning device.old) (first_writes ++ blanks 8 journal) result (meaning device.new) }
-    ensures kept { lender device.new ≡ lender device.old }
+    ensures did { Running (D.meaning device.old) (first_writes ++ blanks 8 journal) result (D.meaning device.new) }
+    ensures kept { D.lender device.new ≡ D.lender device.old }
 {
     clear_headers(device)?;
     blank_journal(device, journal)
@@ -99,8 +99,8 @@ pub fn put_first<D: Device>(
     header: &Header,
 ) -> Result<(), JournalFault>
     requires { journal ≤ 4096 }
-    ensures did { Running (meaning device.old) ((first_writes ++ blanks 8 journal) ++ snapshot_writes Zero body.now header.now) result (meaning device.new) }
-    ensures kept { lender device.new ≡ lender device.old }
+    ensures did { Running (D.meaning device.old) ((first_writes ++ blanks 8 journal) ++ snapshot_writes Zero body.now header.now) result (D.meaning device.new) }
+    ensures kept { D.lender device.new ≡ D.lender device.old }
 {
     clear_all(device, journal)?;
     put_snapshot(device, Slot::Zero, body, header)

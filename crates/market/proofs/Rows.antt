@@ -1,10 +1,10 @@
 -- What a table's calls leave of its rows.
-use Rattle.std.proofs.Common.{◌≡◌, ℕ, ◌+◌, ◌-◌, ◌<◌, ◌≤◌, Bool, true, false, cond, eqb, List, [], ◌∷◌, ◌++◌, length, get_or, take, drop, set, Some, None, sym, refl, ap, ◌∙◌, add-one, arith, eq-eqb, ne_eqb}
+use Rattle.std.proofs.Common.{◌≡◌, ℕ, ◌+◌, ◌-◌, ◌<◌, ◌≤◌, Bool, true, false, List, [], ◌∷◌, ◌++◌, length, get_or, take, drop, set, Some, None, sym, ap, ◌∙◌, add-one, arith, eq-eqb, ne_eqb}
 use Rattle.std.specs.List.{remove}
 use Rattle.std.proofs.lemmas.List.{take_more, drop_more, take_all, drop_all, append_assoc, append-nil, get_or_default}
 use Rattle.market.specs.declared.orders.Order.{Order}
 use Rattle.market.specs.Lists.{found, without, FoundAt}
-use Rattle.market.specs.Orders.{less, reduced, Has}
+use Rattle.market.specs.Orders.{reduced, Has}
 
 -- what a read past the end would give
 abbrev pub blank : Order

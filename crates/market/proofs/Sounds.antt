@@ -1,5 +1,5 @@
 -- What keeps a state sound.
-use Rattle.std.proofs.Common.{◌≡◌, ℕ, ◌+◌, ◌-◌, ◌<◌, ◌≤◌, Bool, true, false, cond, not, ◌&&◌, eqb, ltb, leb, List, [], ◌∷◌, length, sym, refl, ap, ◌∙◌, arith, rules, le-leb, leb-true}
+use Rattle.std.proofs.Common.{◌≡◌, ℕ, ◌+◌, ◌<◌, ◌≤◌, Bool, true, false, leb, List, ◌∷◌, length, arith, rules, le-leb, leb-true}
 use Rattle.std.proofs.lemmas.Bool.{and_parts}
 use Rattle.records.specs.Commands.{within, in_range}
 use Rattle.records.specs.declared.numbers.CommandNumber.{CommandNumber}
@@ -12,7 +12,7 @@ use Rattle.market.specs.declared.orders.Order.{Order}
 use Rattle.market.specs.Lists.{all, pairwise, across, without, placed}
 use Rattle.market.specs.Orders.{before, differ, kept, less, is_of}
 use Rattle.market.specs.Resting.{Resting, side_sound, sound, arriving, passed, withdrawn}
-use Rattle.market.proofs.ListLaws.{true_and, all_weaken, all_without, pairwise_without, length_without, across_without, all_placed, length_placed, pairwise_placed, across_swap}
+use Rattle.market.proofs.ListLaws.{true_and, all_weaken, all_without, pairwise_without, length_without, across_without, all_placed, length_placed, pairwise_placed}
 
 pub record SideSound (s : Side) (n : ℕ) (xs : List Order) : Type 0 where
   pub few : length xs ≤ 32

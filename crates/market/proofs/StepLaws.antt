@@ -1,5 +1,5 @@
 -- The laws of a step, from those of what a market does at a good command.
-use Rattle.std.proofs.Common.{◌≡◌, ℕ, ◌+◌, ◌<◌, ◌≤◌, Bool, true, false, cond, ◌&&◌, eqb, ltb, List, [], ◌∷◌, ◌++◌, length, take, IfOk, Some, None, Ok, Err, Option, Result, sym, refl, ap, ◌∙◌, subst, arith, rules, ltb-true, eq-eqb}
+use Rattle.std.proofs.Common.{◌≡◌, ℕ, ◌+◌, ◌<◌, ◌≤◌, Bool, true, false, cond, ◌&&◌, eqb, ltb, List, [], ◌∷◌, ◌++◌, length, take, IfOk, Some, None, Ok, Err, Option, Result, sym, refl, subst, arith, rules, ltb-true, eq-eqb}
 use lib.Seq.{take-append_seam}
 use Rattle.std.specs.Option.{option_to_list, option_map}
 use Rattle.std.proofs.lemmas.Bool.{and_parts}
@@ -11,8 +11,8 @@ use Rattle.records.specs.declared.commands.Side.{Side}
 use Rattle.records.specs.declared.notices.Notice.{Notice}
 use Rattle.records.specs.declared.refusals.Refusal.{Refusal}
 use Rattle.market.specs.declared.orders.Order.{Order}
-use Rattle.market.specs.Lists.{all, found}
-use Rattle.market.specs.Orders.{cancelled, dropped, rested, is_of}
+use Rattle.market.specs.Lists.{all}
+use Rattle.market.specs.Orders.{cancelled, dropped, rested}
 use Rattle.market.specs.Resting.{Resting, next, passed, withdrawn, stepped}
 use Rattle.market.specs.Steps.{Taken, Applied, uncounted}
 use Rattle.market.proofs.ListLaws.{true_and}

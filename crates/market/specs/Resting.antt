@@ -1,5 +1,5 @@
 -- The state of a market that keeps resting orders, and what the markets' steps share.
-use Rattle.std.specs.Prelude.{◌≡◌, ℕ, ◌+◌, Bool, true, cond, ◌&&◌, List, [], length, nat_le, nat_lt}
+use Rattle.std.specs.Prelude.{ℕ, ◌+◌, Bool, cond, ◌&&◌, List, [], length, nat_le, nat_lt}
 use Rattle.std.specs.Option.{option_to_list, option_map, option_or}
 use Rattle.records.specs.Commands.{good}
 use Rattle.records.specs.declared.numbers.CommandNumber.{CommandNumber}

@@ -6,7 +6,7 @@ use crate::interface::Market;
 /// The second market takes the first one's state, through its saved body: what is saved loads again,
 /// as the same state.
 pub fn copy_state<M: Market>(from: &M, to: &mut M)
-    ensures { means to.new ≡ means from.now }
+    ensures { M.means to.new ≡ M.means from.now }
 {
     let mut body = [0; 1536];
     from.save(&mut body);

@@ -5,6 +5,7 @@
 //! written to it; nothing allocates after construction; a state that one market saves and another
 //! loads is the same state, whatever the market.
 //! Trusted: the toolchain.
+#![tactic(auto)]
 
 pub mod copies;
 pub mod interface;

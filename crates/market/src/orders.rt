@@ -1,7 +1,7 @@
 //! An order that rests or enters, and how a side ranks its orders.
 ghost use Rattle.std.specs.Prelude.{ℕ};
 ghost use Rattle.rank.specs.Ranked.{low_first, high_first};
-ghost use Rattle.std.proofs.Common.{rules};
+ghost use Rattle.rank.proofs.Pairs.{high_first_chains, high_first_irreflexive, high_first_total, low_first_chains, low_first_irreflexive, low_first_total};
 
 use rank::Rank;
 use records::numbers::{CommandNumber, Lots, Member, Price};
@@ -28,11 +28,11 @@ impl Rank<Buys> for Order {
 
     ghost earlier = { high_first };
 
-    ghost irreflexive = { Prim.search rules };
+    ghost irreflexive = { high_first_irreflexive };
 
-    ghost chains = { Prim.search rules };
+    ghost chains = { high_first_chains };
 
-    ghost total = { Prim.search rules };
+    ghost total = { high_first_total };
 
     fn stands_before(&self, other: &Order) -> bool {
         self.price.0 > other.price.0
@@ -47,11 +47,11 @@ impl Rank<Sells> for Order {
 
     ghost earlier = { low_first };
 
-    ghost irreflexive = { Prim.search rules };
+    ghost irreflexive = { low_first_irreflexive };
 
-    ghost chains = { Prim.search rules };
+    ghost chains = { low_first_chains };
 
-    ghost total = { Prim.search rules };
+    ghost total = { low_first_total };
 
     fn stands_before(&self, other: &Order) -> bool {
         self.price.0 < other.price.0

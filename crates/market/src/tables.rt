@@ -29,7 +29,7 @@ pub struct OrderTable {
 
 // The place in front of which `x` goes by rank.
 fn place_of<B, T: Rank<B>>(xs: &[T], x: &T) -> usize
-    ensures { (result ≤ length xs.now) × (placed (λ y z. earlier (key y) (key z)) x.now xs.now ≡ insert xs.now result x.now) }
+    ensures { (result ≤ length xs.now) × (placed (λ y z. T.earlier (T.key y) (T.key z)) x.now xs.now ≡ insert xs.now result x.now) }
 {
     for i in 0..xs.len() {
         if x.stands_before(&xs[i]) {

@@ -1,6 +1,6 @@
 -- Sectors made equal in both halves.
-use Rattle.std.proofs.Common.{◌≡◌, ℕ, ◌+◌, ◌<◌, ◌≤◌, min, Bool, true, false, ◌&&◌, ◌||◌, ◌⊎◌, List, Ok, Err, sym, refl, ap, ◌∙◌, subst, inl, inr, ⊎_elim, arith}
-use Rattle.std.proofs.lemmas.Bool.{or_left, or_right, or_cases, and_from, and_parts, and_right, cases_eq}
+use Rattle.std.proofs.Common.{◌≡◌, ℕ, ◌+◌, ◌<◌, min, true, false, ◌&&◌, ◌⊎◌, List, Ok, Err, sym, refl, ap, ◌∙◌, subst, inl, inr, ⊎_elim, arith}
+use Rattle.std.proofs.lemmas.Bool.{or_left, or_right, or_cases, and_from, and_parts, cases_eq}
 use Rattle.device.specs.Meaning.{Meaning, Reading, bytes, torn, Contents, ◌∈◌, Lawful}
 use Rattle.device.specs.declared.fault.DeviceFault.{DeviceFault}
 use Rattle.device.specs.declared.fault.DeviceFault.TheVariants.{OutOfRange, Cut, Torn}
@@ -8,7 +8,7 @@ use Rattle.device.specs.Faults.{told_of}
 use Rattle.device.specs.Calls.{Answer, DidSync, Moved, WasCut, Written, Synced, Kept, Joined}
 use Rattle.mirror.specs.Halves.{either, both, mirrored, either_in, Level, SyncedHalves}
 use Rattle.mirror.specs.Mends.{SyncsBoth, MendedOne, CutOne, Tight, Mended, MendsOne, MendsAll}
-use Rattle.mirror.proofs.Moves.{still, from_same, from_synced, after_moved, pair_kept, half_dark, dark_left, dark_right, either_torn, either_bytes}
+use Rattle.mirror.proofs.Moves.{from_same, from_synced, after_moved, pair_kept, half_dark, dark_left, dark_right, either_torn, either_bytes}
 
 never_torn : (xs : List ℕ) → bytes xs ≡ torn → ⊥
 never_torn xs e = let z : ◌≡◌ {A = ℕ} 0 1 = cc in omega arith

@@ -1,11 +1,11 @@
 -- Two halves that each moved within what they may hold, taken together.
-use Rattle.std.proofs.Common.{◌≡◌, ℕ, ◌<◌, ◌≤◌, min, Bool, true, false, ◌&&◌, ◌||◌, ◌⊎◌, List, Ok, Err, sym, refl, ap, ◌∙◌, subst, inl, inr, ⊎_elim, arith}
+use Rattle.std.proofs.Common.{◌≡◌, ℕ, ◌<◌, ◌≤◌, min, Bool, true, false, ◌&&◌, ◌⊎◌, List, Ok, Err, sym, refl, ap, ◌∙◌, subst, inl, inr, ⊎_elim, arith}
 use Rattle.std.proofs.lemmas.Bool.{or_left, or_right, or_cases, and_from, and_parts, and_right, cases_eq}
 use Rattle.device.specs.Meaning.{Meaning, Reading, bytes, torn, Contents, ◌∈◌, Lawful}
 use Rattle.device.specs.declared.fault.DeviceFault.{DeviceFault}
 use Rattle.device.specs.declared.fault.DeviceFault.TheVariants.{OutOfRange, Cut, Torn}
 use Rattle.device.specs.Calls.{Answer, DidRead, DidWrite, FoundTorn, Moved, WasCut, Written, Synced, Woken, Kept, Joined}
-use Rattle.mirror.specs.Halves.{either, both, mirrored, either_in, Unlit, ReadHalves, WroteHalves}
+use Rattle.mirror.specs.Halves.{either, both, mirrored, either_in, ReadHalves, WroteHalves}
 
 pub still : (m : Meaning) → Lawful m → Moved m (Kept m) m
 still m l = record { size = refl; left = l.among; gains = λ s h x i. i }
@@ -115,6 +115,13 @@ pub read_dark : (a b : Meaning) (at : ℕ) (old : List ℕ) → Lawful a → Law
 read_dark a b at old l k h e = ((refl, h, half_dark a b l k e, refl), inl (e, refl, refl))
 
 -- the answer of half A
+-- a fault of another kind is not that the sector is torn
+pub past_not_torn : (f : DeviceFault) (x : ℕ) → f ≡ OutOfRange x → (s : ℕ) → ◌≡◌ {A = Answer} (Err f) (Err (Torn s)) → ⊥
+past_not_torn f x k s e = let z : ◌≡◌ {A = ℕ} 0 1 = cc in omega arith
+
+pub cut_not_torn : (f : DeviceFault) (x : ℕ) → f ≡ Cut x → (s : ℕ) → ◌≡◌ {A = Answer} (Err f) (Err (Torn s)) → ⊥
+cut_not_torn f x k s e = let z : ◌≡◌ {A = ℕ} 0 1 = cc in omega arith
+
 pub read_first : (a b m : Meaning) (at : ℕ) (old : List ℕ) (r : Answer) (new : List ℕ) → Lawful b → at < min a.size b.size → b.lit ≡ true → ((s : ℕ) → r ≡ Err (Torn s) → ⊥) → DidRead a at old r new m → BothRead a b at old r new m b
 read_first a b m at old (Ok u) new k h e t d =
     (record { within = h; was_lit = and_from _ _ d.was_lit e; here = either_bytes _ _ new d.here; same = ap (λ (z : Meaning). mirrored z b) d.same }, (inl d.here, d.same, refl))

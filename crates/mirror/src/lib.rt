@@ -5,6 +5,8 @@
 //!
 //! Proved, for any two devices: the mirror keeps the meaning of a device with the sets of specs/Halves, and each call does to
 //! each half what is said there. Nothing is trusted but the toolchain.
+#![tactic(auto)]
+
 ghost use Rattle.std.specs.Prelude.{◌≡◌, ◌<◌, Decides};
 ghost use Rattle.device.specs.Calls.{DidRead, DidSync, DidWrite, Woken};
 ghost use Rattle.mirror.specs.Halves.{ReadHalves, SyncedHalves, WroteHalves, lenders, mirrored, mirrored_lawful};
@@ -34,8 +36,8 @@ fn same(x: &Sector, y: &Sector) -> bool
 
 // Whether a sector has bytes, which are then in the buffer.
 fn look<D: Device>(d: &mut D, s: usize, buffer: &mut Sector) -> Result<bool, DeviceFault>
-    ensures did { Looks (meaning d.old) s result buffer.new (meaning d.new) }
-    ensures kept { lender d.new ≡ lender d.old }
+    ensures did { Looks (D.meaning d.old) s result buffer.new (D.meaning d.new) }
+    ensures kept { D.lender d.new ≡ D.lender d.old }
 {
     match d.read(s, buffer) {
         Ok(()) => Ok(true),
@@ -49,8 +51,8 @@ fn look<D: Device>(d: &mut D, s: usize, buffer: &mut Sector) -> Result<bool, Dev
 
 // Makes a sector of both halves what the two together read.
 fn mend<A: Device, B: Device>(a: &mut A, b: &mut B, s: usize) -> Result<(), DeviceFault>
-    requires s_bound { s < (A.Device.meaning a.old).size }
-    requires s_bound_2 { s < (B.Device.meaning b.old).size }
+    requires inside_a { s < (A.Device.meaning a.old).size }
+    requires inside_b { s < (B.Device.meaning b.old).size }
     ensures did { MendsOne (A.Device.meaning a.old) (B.Device.meaning b.old) s result (A.Device.meaning a.new) (B.Device.meaning b.new) }
     ensures kept_a { A.Device.lender a.new ≡ A.Device.lender a.old }
     ensures kept_b { B.Device.lender b.new ≡ B.Device.lender b.old }
@@ -72,8 +74,8 @@ fn mend<A: Device, B: Device>(a: &mut A, b: &mut B, s: usize) -> Result<(), Devi
 
 // Makes every sector of both halves what the two together read, in order.
 fn mend_all<A: Device, B: Device>(a: &mut A, b: &mut B) -> Result<(), DeviceFault>
-    requires tight { Tight (A.Device.meaning a.old) }
-    requires tight_2 { Tight (B.Device.meaning b.old) }
+    requires tight_a { Tight (A.Device.meaning a.old) }
+    requires tight_b { Tight (B.Device.meaning b.old) }
     ensures did { MendsAll (A.Device.meaning a.old) (B.Device.meaning b.old) result (A.Device.meaning a.new) (B.Device.meaning b.new) }
     ensures kept_a { A.Device.lender a.new ≡ A.Device.lender a.old }
     ensures kept_b { B.Device.lender b.new ≡ B.Device.lender b.old }

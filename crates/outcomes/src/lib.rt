@@ -3,6 +3,8 @@
 //!
 //! Proved: what is seen of a sector is what it then reads as, and what the tally counts (specs/Outcomes). Nothing is
 //! trusted but the toolchain.
+#![tactic(auto)]
+
 ghost use Rattle.std.specs.Prelude.{◌≡◌};
 ghost use Rattle.outcomes.specs.Outcomes.{Observed, RanAndWoke, SawSector};
 
@@ -14,8 +16,8 @@ pub mod seen;
 
 // Runs the operations in order until one is cut, and wakes the device; whether one was cut.
 fn run_and_wake<D: Device>(device: &mut D, script: &[Operation]) -> bool
-    ensures did { RanAndWoke (meaning device.old) script.now result (meaning device.new) }
-    ensures kept { lender device.new ≡ lender device.old }
+    ensures did { RanAndWoke (D.meaning device.old) script.now result (D.meaning device.new) }
+    ensures kept { D.lender device.new ≡ D.lender device.old }
 {
     match run(device, script) {
         Ok(()) => {
@@ -31,8 +33,8 @@ fn run_and_wake<D: Device>(device: &mut D, script: &[Operation]) -> bool
 
 // What a sector reads as, by its first byte.
 fn see<D: Device>(device: &mut D, sector: usize) -> Seen
-    ensures did { SawSector (meaning device.old) sector result (meaning device.new) }
-    ensures kept { lender device.new ≡ lender device.old }
+    ensures did { SawSector (D.meaning device.old) sector result (D.meaning device.new) }
+    ensures kept { D.lender device.new ≡ D.lender device.old }
 {
     let mut buffer = [0; 512];
     match device.read(sector, &mut buffer) {
@@ -47,8 +49,8 @@ fn see<D: Device>(device: &mut D, sector: usize) -> Seen
 
 /// Runs the operations in order until one is cut, wakes the device and reads its first two sectors.
 pub fn observe<D: Device>(device: &mut D, script: &[Operation]) -> Outcome
-    ensures did { Observed (meaning device.old) script.now result (meaning device.new) }
-    ensures kept { lender device.new ≡ lender device.old }
+    ensures did { Observed (D.meaning device.old) script.now result (D.meaning device.new) }
+    ensures kept { D.lender device.new ≡ D.lender device.old }
 {
     let cut = run_and_wake(device, script);
     let first = see(device, 0);

@@ -5,6 +5,8 @@
 //! Proved: words are read only as the pile that they spell (specs/Spellings); a fault is told in its sentence
 //! (specs/Faults). Not proved: that words which spell a pile are never refused, nor that the fault which is told is the one
 //! that stands. Nothing is trusted but the toolchain.
+#![tactic(auto)]
+
 pub use fault::PileFault;
 pub use reading::pile_of;
 

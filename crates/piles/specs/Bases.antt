@@ -6,7 +6,7 @@ use Rattle.drives.specs.Drives.{State, state, meaning_of, meaning_lawful}
 use Rattle.drives.specs.declared.schedule.Schedule.{Schedule}
 use Rattle.stores.specs.declared.plain.Plain.{Plain}
 use Rattle.stores.specs.declared.cached.Cached.{Cached}
-use Rattle.either.specs.Eithers.{meant_by, meant_lawful, lent_by}
+use Rattle.either_device.specs.Eithers.{meant_by, meant_lawful, lent_by}
 use Rattle.piles.specs.declared.base.Base.{Base}
 
 -- a direct drive, and a write-back drive, to the byte

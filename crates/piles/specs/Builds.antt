@@ -1,6 +1,6 @@
 -- What is built of a shape over lent bytes. Assumes nothing.
 use Rattle.std.specs.Prelude.{◌≡◌, ℕ, true, List, [], None, vec_items}
-use Rattle.std.specs.Borrow.{Bor}
+use Rattle.std.specs.Borrow.{MutBor}
 use Rattle.drives.specs.Drives.{State}
 use Rattle.drives.specs.Schedules.{next_on, rest}
 use Rattle.drives.specs.declared.schedule.Schedule.{Schedule}
@@ -9,8 +9,8 @@ use Rattle.stores.specs.declared.cached.Cached.{Cached}
 use Rattle.device.specs.declared.offset.Offset.{Offset as Shift}
 use Rattle.mirror.specs.declared.Mirror.{Mirror as Pair}
 use Rattle.piles.specs.Bases.{direct_state, write_back_state}
-use Rattle.either.specs.declared.Either.{Either}
-use Rattle.either.specs.declared.Either.TheVariants.{First, Second}
+use Rattle.either_device.specs.declared.Either.{Either}
+use Rattle.either_device.specs.declared.Either.TheVariants.{First, Second}
 use Rattle.piles.specs.declared.base.Base.{Base}
 use Rattle.piles.specs.declared.shape.DriveKind.{DriveKind}
 use Rattle.piles.specs.declared.shape.DriveKind.TheVariants.{Direct, WriteBack}
@@ -22,7 +22,7 @@ use Rattle.piles.specs.declared.shape.PileShape.{PileShape}
 
 -- lent bytes
 abbrev pub Bytes : Type 0
-Bytes = Bor (List ℕ)
+Bytes = MutBor (List ℕ)
 
 -- a new drive over the bytes: lit, nothing waits, and the first of its fuses is on
 abbrev pub fresh : DriveShape → Bytes → State

@@ -3,7 +3,7 @@ ghost use Rattle.piles.specs.Bases.{BaseLender, base_lawful, base_lender, base_m
 
 use device::{Device, DeviceFault, Sector};
 use drives::Schedule;
-use either::Either;
+use either_device::Either;
 use stores::{Cached, Plain};
 
 /// A direct or a write-back drive, with its fuses. A struct, so that its type has one lifetime.

@@ -5,7 +5,7 @@ ghost use Rattle.std.specs.Prelude.{IfOk};
 use crate::{Base, DriveKind, DriveShape, PartShape, PileShape, WholeShape};
 use device::offset::Offset;
 use drives::{Drive, Schedule};
-use either::Either;
+use either_device::Either;
 use mirror::Mirror;
 use std::alloc::{AllocError, Global};
 

@@ -1,4 +1,5 @@
 //! Tests of fuses and plans, by tables. Nothing here but tests: they are many for the crates that they try.
+#![tactic(auto)]
 
 #[cfg(test)]
 mod tests {

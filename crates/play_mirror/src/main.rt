@@ -1,6 +1,12 @@
 //! Hammerbuff, the program: the same as `hammerbuff`, so that the gate runs `play` on two mirrors that differ after a cut.
-use cli::{Fault, run_and_report};
+#![tactic(auto)]
 
-fn main(rt: HostRuntime) -> Result<(), Fault> {
-    run_and_report(&rt)
+use cli::run_and_report;
+use std::process::ExitCode;
+
+fn main(rt: HostRuntime) -> ExitCode {
+    match run_and_report(&rt) {
+        Ok(()) => ExitCode::SUCCESS,
+        Err(_) => ExitCode::FAILURE,
+    }
 }

@@ -1,5 +1,5 @@
 -- Words by their places.
-use Rattle.std.proofs.Common.{◌≡◌, ℕ, ◌-◌, ◌<◌, ◌≤◌, ◌⊎◌, List, [], ◌∷◌, map, length, get_or, take, drop, IfOk, Ok, Err, codes, Result, sym, refl, ap, ◌∙◌, inl, inr, arith, Bor}
+use Rattle.std.proofs.Common.{◌≡◌, ℕ, ◌-◌, ◌<◌, ◌≤◌, List, [], ◌∷◌, map, length, get_or, take, drop, IfOk, Ok, Err, codes, Result, sym, refl, ap, ◌∙◌, inl, inr, arith, Bor}
 use Rattle.std.proofs.lemmas.List.{take_all}
 use Rattle.words.specs.Spellings.{Writes}
 use Rattle.play_words.specs.declared.faults.PlayFault.{PlayFault}

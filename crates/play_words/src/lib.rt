@@ -8,6 +8,8 @@
 //! the set-up, and a script that is finished is what was read (specs/Scripts). Not proved: which bytes hex digits give,
 //! that words which spell a line are never refused, nor that the fault which is told is the one that stands.
 //! Trusted: the toolchain.
+#![tactic(auto)]
+
 pub mod calls;
 pub mod faults;
 pub mod script;

@@ -29,7 +29,7 @@ pub(crate) fn read_script(rt: &HostRuntime) -> Result<Script, JobFault> {
     let mut reader = Reader::new(heap);
     let mut buffer = LineBuffer::new();
     let mut line: u64 = 1;
-    for byte in BufReader::new(rt.stdin()).bytes() {
+    for byte in BufReader::new(rt.alloc(), rt.stdin())?.bytes() {
         let byte = byte?;
         if byte != b'\n' {
             buffer.push(byte);

@@ -5,7 +5,6 @@ use Rattle.device.specs.Runs.{Adds}
 use Rattle.device.specs.declared.run.Operation.{Operation}
 use Rattle.device.specs.declared.run.Operation.TheVariants as op
 use Rattle.device.specs.Runs as runs
-use Rattle.protocol.specs.Steps.{Write, Sync}
 
 -- no set gains more than a call may add
 abbrev pub NoMore : Meaning → Operation → Meaning → Type 0

@@ -5,7 +5,6 @@ use native.Mathlib.Decide.{dec_le}
 use Rattle.records.specs.declared.notices.Notice.{Notice}
 use Rattle.records.specs.declared.numbers.HouseNumber.{HouseNumber}
 use Rattle.records.specs.declared.numbers.PageNumber.{PageNumber}
-use Rattle.market.specs.Lists.{all}
 use Rattle.device.specs.Meaning.{Meaning}
 use Rattle.protocol.specs.declared.phases.Phase.{Phase}
 use Rattle.protocol.specs.declared.phases.Phase.TheVariants.{Live, Written, Dark, Replaying}
@@ -191,8 +190,8 @@ module _ {S : Type 0} (w : World S) (laws : Laws w) where
   calm : (f : ExchangeFault) (b l : Watch) (a : ℕ) (ns : List Notice) → reason_of f ≢ 15 → l.opening ≡ Some (record { above = a; handed = ns }) → (cond (is_cut f) b l).opening ≡ Some (record { above = a; handed = ns ++ [] })
   calm f b l a ns n e = rw (ne_eqb (reason_of f) 15 n) (quiet l.opening a ns e)
 
-  abbrev Goes_on : Watch → State S → ℕ → List Notice → Type 0
-  Goes_on l x a ns = (x.phase ≢ Dark) × (l.opening ≡ Some (record { above = a; handed = ns }))
+  abbrev GoesOn : Watch → State S → ℕ → List Notice → Type 0
+  GoesOn l x a ns = (x.phase ≢ Dark) × (l.opening ≡ Some (record { above = a; handed = ns }))
 
   stays_lit : (x x' : State S) → x.phase ≢ Dark → x'.phase ≡ x.phase → x'.phase ≢ Dark
   stays_lit x x' n e d = n (sym e ∙ d)
@@ -200,7 +199,7 @@ module _ {S : Type 0} (w : World S) (laws : Laws w) where
   phase_of : (x x' : State S) → x' ≡ x → x'.phase ≡ x.phase
   phase_of x x' e = ap (λ (z : State S). z.phase) e
 
-  goes_on : (l : Watch) (a : ℕ) (ns : List Notice) (x x' : State S) (e : Event) → Inv w laws l x → CalmEvent e → Step w x e x' → Goes_on l x a ns → Goes_on (watch_note e l) x' a (ns ++ handed_by e)
+  goes_on : (l : Watch) (a : ℕ) (ns : List Notice) (x x' : State S) (e : Event) → Inv w laws l x → CalmEvent e → Step w x e x' → GoesOn l x a ns → GoesOn (watch_note e l) x' a (ns ++ handed_by e)
   goes_on l a ns x x' (Stage bs (Ok n)) i c s (d, o) = (stays_lit x x' d (phase_of _ x' s.result), quiet l.opening a ns o)
   goes_on l a ns x x' (Stage bs (Err f)) i c (refused r b q e) (d, o) = (stays_lit x x' d (phase_of x x' e), calm f (watch_broken l) l a ns c o)
   goes_on l a ns x x' (Stage bs (Err f)) i c (broke b m h y e) (d, o) = absurd y
@@ -227,7 +226,7 @@ module _ {S : Type 0} (w : World S) (laws : Laws w) where
   goes_on l a ns x x' (Replay room (Err f)) i c (broke b m h (inl (s, q, k)) e) (d, o) = absurd (c (cut_15 f s q))
   goes_on l a ns x x' (Replay room (Err f)) i c (broke b m h (inr y) e) (d, o) = absurd (never_19 w laws f m (at_phase w laws Replaying (may_replay w laws x room b) i) y)
 
-  since_open : (since before : History) (p : PageNumber) (x : State S) → Walk w (since ++ (Open (Ok p) ∷ before)) x → Calm since → Goes_on (watch (since ++ (Open (Ok p) ∷ before))) x (watch before).highest (handed_out since)
+  since_open : (since before : History) (p : PageNumber) (x : State S) → Walk w (since ++ (Open (Ok p) ∷ before)) x → Calm since → GoesOn (watch (since ++ (Open (Ok p) ∷ before))) x (watch before).highest (handed_out since)
   since_open [] before p x' (x, r, s) c = (not_dark _ Replaying (phase_of _ x' s.result) (omega arith), refl)
   since_open (e ∷ since) before p x' (x, r, s) (c, cs) =
       let h = since ++ (Open (Ok p) ∷ before) in

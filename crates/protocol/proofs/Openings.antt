@@ -19,7 +19,7 @@ use Rattle.protocol.specs.declared.faults.ExchangeFault.{ExchangeFault}
 use Rattle.device.specs.declared.run.Operation.TheVariants as op
 use Rattle.device.specs.Runs as runs
 use Rattle.protocol.specs.Worlds.{World, page_head, looks, sector, part, body_at}
-use Rattle.protocol.specs.Steps.{Handed, Sync, Open, Replay, State, handed, wake_ops, shown, header_of, taken, loaded_from, loaded, Opened, Replayed, CaughtUp, NoHeaderFound, BadBody, BadPage}
+use Rattle.protocol.specs.Steps.{Handed, Open, Replay, State, handed, wake_ops, shown, header_of, taken, loaded_from, loaded, Opened, Replayed, CaughtUp, NoHeaderFound, BadBody, BadPage}
 use Rattle.protocol.specs.Promises.{Pages, flat, Sent, added, market_after, notices_count, record_notices, OfRecord, RunsOver}
 use Rattle.protocol.proofs.Devices.{Ran, all_did}
 use Rattle.protocol.proofs.Codecs.{PageFits, Laws}

@@ -14,7 +14,7 @@ use Rattle.journal.specs.declared.slots.Slot.{Slot}
 use Rattle.journal.specs.declared.slots.Slot.TheVariants.{Zero, One}
 use Rattle.device.specs.declared.run.Operation.TheVariants as op
 use Rattle.protocol.specs.Worlds.{N, World, page_image, looks, sector, header_for, part, body_at}
-use Rattle.protocol.specs.Steps.{Write, Sync, shown}
+use Rattle.protocol.specs.Steps.{shown}
 use Rattle.protocol.specs.Promises.{Pages, flat, Sent, market_after, notices_count}
 use Rattle.protocol.proofs.Devices.{NoMore, Did, Cut}
 use Rattle.protocol.proofs.Codecs.{PageFits, HeaderFits, Laws}

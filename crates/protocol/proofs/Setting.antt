@@ -8,7 +8,7 @@ use Rattle.journal.specs.Places.{journal}
 use Rattle.journal.specs.declared.slots.Slot.TheVariants.{Zero}
 use Rattle.device.specs.declared.run.Operation.TheVariants as op
 use Rattle.protocol.specs.Worlds.{World, blank, looks, header_image, part, body_at}
-use Rattle.protocol.specs.Steps.{Write, Sync, State, blanks, body_ops, seal_ops, set_up_ops, shown, SetUp}
+use Rattle.protocol.specs.Steps.{State, blanks, body_ops, seal_ops, set_up_ops, shown, SetUp}
 use Rattle.protocol.proofs.Devices.{Did, Ran, AllInside, inside_append, all_did}
 use Rattle.protocol.proofs.Codecs.{Laws}
 use Rattle.protocol.proofs.Lists.{none_left}

@@ -13,7 +13,7 @@ use Rattle.protocol.specs.declared.phases.Phase.TheVariants.{Live}
 use Rattle.device.specs.declared.run.Operation.TheVariants as op
 use Rattle.device.specs.Runs as runs
 use Rattle.protocol.specs.Worlds.{World, part, body_at}
-use Rattle.protocol.specs.Steps.{Write, Sync, Snapshot, State, reset, covering, body_ops, seal_ops, snapshot_ops, shown, Snapshotted}
+use Rattle.protocol.specs.Steps.{Snapshot, State, reset, covering, body_ops, seal_ops, snapshot_ops, shown, Snapshotted}
 use Rattle.protocol.specs.Promises.{Pages, flat, Sent, market_after, notices_count}
 use Rattle.protocol.proofs.Devices.{Did, Cut, Ran, CutWithin, AllInside, all_did, one_cut}
 use Rattle.protocol.proofs.Codecs.{Laws}

@@ -27,10 +27,9 @@ use Rattle.device.specs.declared.run.Operation.TheVariants as op
 use Rattle.device.specs.Runs as runs
 use Rattle.device.specs.Calls as device
 use Rattle.protocol.specs.Worlds.{N, World, Fits, blank, page_head, page_image, looks, header_for, part}
-use Rattle.protocol.specs.Steps.{Stage, Write, Sync, Deliver, Snapshot, State, is_none, blanks, reset, set_up, moved, staging, delivering, covering, taking, applied, write_ops, read_ops, sync_ops, body_ops, seal_ops, snapshot_ops, set_up_ops, first_header, taken, loaded, Synced, broke}
+use Rattle.protocol.specs.Steps.{Stage, Write, Sync, Deliver, Snapshot, State, is_none, blanks, reset, set_up, moved, staging, delivering, covering, taking, applied, write_ops, read_ops, sync_ops, body_ops, seal_ops, snapshot_ops, set_up_ops, first_header, taken, loaded, broke}
 use Rattle.protocol.specs.Promises.{with_command, Run}
 use Rattle.protocol.specs.Witness.{MarketLaws, same_bytes, saved, found, counting, same_reading, disk, house_seven, an_order, its_cancel, a_cross, one_ticket, page_one, till_opened, ARun}
-use Rattle.protocol.proofs.Devices.{Ran}
 use Rattle.protocol.proofs.Codecs.{PageFits, Laws, parts_join, good_contents, laws_of}
 use Rattle.protocol.proofs.Lists.{some_inj}
 use Rattle.protocol.proofs.Sectors.{below_journal, body_below}

@@ -1,5 +1,5 @@
 -- The record, which is kept from calls and answers alone, and the promises over every run. Assumes nothing.
-use Rattle.std.specs.Prelude.{◌≡◌, ℕ, suc, ◌+◌, ◌<◌, ◌≤◌, max, Bool, true, cond, ◌&&◌, ◌⊎◌, List, [], ◌∷◌, ◌++◌, length, Some, None, Ok, Err, Option, Result, ◌==◌, ◌≢◌, nat_lt}
+use Rattle.std.specs.Prelude.{◌≡◌, ℕ, suc, ◌<◌, ◌≤◌, max, Bool, cond, ◌&&◌, ◌⊎◌, List, [], ◌∷◌, ◌++◌, length, Some, None, Ok, Err, Option, Result, ◌==◌, ◌≢◌, nat_lt}
 use mathlib.Core.List.{Memᴰ}
 use Rattle.records.specs.Commands.{decoded}
 use Rattle.records.specs.Notices.{counted}
@@ -7,7 +7,6 @@ use Rattle.records.specs.declared.commands.Command.{Command}
 use Rattle.records.specs.declared.notices.Notice.{Notice}
 use Rattle.records.specs.declared.numbers.PageNumber.{PageNumber}
 use Rattle.device.specs.Meaning.{Meaning}
-use Rattle.protocol.specs.declared.phases.Phase.{Phase}
 use Rattle.protocol.specs.declared.phases.Phase.TheVariants.{Live}
 use Rattle.protocol.specs.declared.tokens.ReceiptNumbers.{ReceiptNumbers}
 use Rattle.protocol.specs.declared.faults.ExchangeFault.{ExchangeFault}

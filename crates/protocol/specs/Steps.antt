@@ -18,7 +18,7 @@ use Rattle.device.specs.declared.run.Operation.{Operation}
 use Rattle.device.specs.declared.run.Operation.TheVariants as op
 use Rattle.journal.specs.Places.{size_good, journal}
 use Rattle.journal.specs.Slots.{other, header_place, body_place}
-use Rattle.journal.specs.Choices.{own_header_in, first_of, in_slot}
+use Rattle.journal.specs.Choices.{own_header_in, first_of}
 use Rattle.journal.specs.declared.slots.Slot.{Slot}
 use Rattle.journal.specs.declared.slots.Slot.TheVariants.{Zero, One}
 use Rattle.journal.specs.declared.choosing.SlotHeader.{SlotHeader}
@@ -28,7 +28,7 @@ use Rattle.protocol.specs.declared.tokens.TicketNumbers.{TicketNumbers}
 use Rattle.protocol.specs.declared.tokens.ReceiptNumbers.{ReceiptNumbers}
 use Rattle.protocol.specs.declared.faults.ExchangeFault.{ExchangeFault}
 use Rattle.protocol.specs.Faults.{plain, cut_at, torn_at, refused_at, other_last_at, bad_page_at, first_fit}
-use Rattle.protocol.specs.Worlds.{N, Rules, World, Fits, blank, after, given, page_head, page_image, looks, sector, header_for, header_image, part, body_at}
+use Rattle.protocol.specs.Worlds.{N, Rules, World, Fits, blank, after, given, page_head, page_image, looks, sector, header_image, part, body_at}
 
 -- the last notice of a receipt: one below its first where it has none
 abbrev pub last_notice : ReceiptNumbers → ℕ

@@ -1,5 +1,5 @@
 -- What a market means, and the records that an exchange keeps on its device. Assumes nothing.
-use Rattle.std.specs.Prelude.{◌≡◌, ℕ, ◌+◌, ◌*◌, Bool, true, List, [], ◌∷◌, ◌++◌, take, drop, replicate, Option}
+use Rattle.std.specs.Prelude.{◌≡◌, ℕ, ◌+◌, ◌*◌, Bool, true, List, take, drop, replicate, Option}
 use Rattle.records.specs.Sectors.{fits_in}
 use Rattle.records.specs.Pages.{page_of, page_sector_bytes, bytes_look_for}
 use Rattle.records.specs.Headers.{header_sector_bytes}
@@ -10,7 +10,7 @@ use Rattle.records.specs.declared.pages.PageHead.{PageHead}
 use Rattle.records.specs.declared.numbers.HouseNumber.{HouseNumber}
 use Rattle.market.specs.declared.interface.Market as market
 use Rattle.batches.specs.Given.{after_all, given_by}
-use Rattle.journal.specs.Places.{size_good, journal, page_place}
+use Rattle.journal.specs.Places.{size_good, page_place}
 use Rattle.journal.specs.Slots.{body_place}
 use Rattle.journal.specs.declared.slots.Slot.{Slot}
 

@@ -7,6 +7,8 @@
 //!
 //! Proved: `promises_stand`, that every run over every device and market keeps the promises; `runs_exist`, that there are
 //! such runs. Trusted: the toolchain.
+#![tactic(auto)]
+
 pub mod faults;
 pub mod phases;
 pub mod promises;

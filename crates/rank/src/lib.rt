@@ -4,6 +4,8 @@
 //! Proved: `first_in_rank` answers none of an empty slice, else the place of an element that none
 //! stands before, and no other element that differs from it in a ranked field is so.
 //! Trusted: the toolchain.
+#![tactic(auto)]
+
 ghost use Rattle.std.specs.Prelude.{◌≡◌, ℕ, length, MatchOption};
 ghost use Rattle.rank.specs.Ranked.{First};
 
@@ -13,7 +15,7 @@ pub use ranking::Rank;
 
 /// Where the first in rank of `xs` stands.
 pub fn first_in_rank<B, T: Rank<B>>(xs: &[T]) -> Option<usize>
-    ensures { MatchOption result (length xs.now ≡ 0) (First earlier key xs.now) }
+    ensures { MatchOption result (length xs.now ≡ 0) (First T.earlier T.key xs.now) }
 {
     if xs.len() == 0 {
         return None;

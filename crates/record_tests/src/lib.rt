@@ -1,5 +1,6 @@
 //! Tests of the records on sectors: which sectors are refused, byte by byte. The proofs say it of
 //! every sector; these run the compiled code.
+#![tactic(auto)]
 
 #[cfg(test)]
 mod changes;

@@ -1,8 +1,7 @@
 -- The laws of commands and their records.
-use Rattle.std.proofs.Common.{◌≡◌, ℕ, zero, suc, ◌+◌, ◌^◌, ◌<◌, ◌≤◌, Bool, true, false, cond, ◌&&◌, eqb, leb, ◌⊎◌, List, [], ◌∷◌, ◌++◌, length, take, drop, Some, None, Ok, Err, Option, sym, refl, ap, ◌∙◌, inl, inr, ⊎_elim, arith}
+use Rattle.std.proofs.Common.{◌≡◌, ℕ, zero, suc, ◌+◌, ◌≤◌, Bool, true, false, cond, eqb, leb, ◌⊎◌, List, length, drop, Some, None, Ok, Err, Option, sym, refl, ap, ◌∙◌, inl, inr, ⊎_elim, arith}
 use Rattle.std.proofs.lemmas.List.{length-drop, take_all}
-use Rattle.std.proofs.lemmas.Bool.{and_parts, leb-true, eqb-true, ne_eqb, cond-true, cond-false}
-use Rattle.std.proofs.lemmas.Bool.Decides.{nat_tests}
+use Rattle.std.proofs.lemmas.Bool.{and_parts, leb-true, eqb-true, cond-true}
 use Rattle.records.specs.declared.numbers.CommandNumber.{CommandNumber}
 use Rattle.records.specs.declared.numbers.Member.{Member}
 use Rattle.records.specs.declared.numbers.Price.{Price}
@@ -13,7 +12,7 @@ use Rattle.records.specs.declared.commands.Command.{Command}
 use Rattle.records.specs.declared.commands.Command.TheVariants.{Enter, Cancel, Cross}
 use Rattle.records.specs.declared.refusals.Refusal.TheVariants.{NotACommand}
 use Rattle.records.specs.LittleEndian.{le, number, field, Bytes}
-use Rattle.records.specs.Commands.{good, encoded, decoded, if_good, enter_in_bytes, cancel_in, within, side_number, in_range, ComesBack, Decoded}
+use Rattle.records.specs.Commands.{good, encoded, decoded, if_good, enter_in_bytes, cancel_in, within, side_number, ComesBack, Decoded}
 use Rattle.records.proofs.LittleEndianLaws.{number_le, le_field, le_cut}
 
 -- a number in its range fits its bytes

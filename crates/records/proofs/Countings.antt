@@ -1,6 +1,6 @@
 -- The loop that numbers notices.
-use Rattle.std.proofs.Common.{◌≡◌, ℕ, ◌+◌, ◌<◌, ◌≤◌, List, [], ◌∷◌, ◌++◌, length, get_or, take, drop, set, sym, refl, ap, ◌∙◌, arith, length-set}
-use Rattle.std.proofs.lemmas.List.{take_more, drop_more, take_more_set, drop-set-lt, take_all, drop_all, append_assoc, append-nil, drop-drop, length-take-le}
+use Rattle.std.proofs.Common.{◌≡◌, ℕ, ◌+◌, ◌<◌, ◌≤◌, List, [], ◌∷◌, ◌++◌, length, get_or, take, drop, set, sym, ap, ◌∙◌, arith, length-set}
+use Rattle.std.proofs.lemmas.List.{take_more, drop_more, take_more_set, drop-set-lt, take_all, drop-drop, length-take-le}
 use Rattle.records.specs.declared.notices.Notice.{Notice}
 use Rattle.records.specs.Notices.{numbered, counted}
 

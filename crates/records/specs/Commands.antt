@@ -1,7 +1,6 @@
 -- Commands and their records.
 use Rattle.std.specs.Prelude.{◌≡◌, ℕ, Bool, true, cond, ◌&&◌, List, ◌++◌, length, Some, None, Ok, Err, Option, Result, ◌==◌, ◌≢◌, nat_le}
-use Rattle.records.specs.LittleEndian.{le, field, Bytes}
-use Rattle.records.specs.declared.numbers.CommandNumber.{CommandNumber}
+use Rattle.records.specs.LittleEndian.{le, field}
 use Rattle.records.specs.declared.numbers.Member.{Member}
 use Rattle.records.specs.declared.numbers.Price.{Price}
 use Rattle.records.specs.declared.numbers.Lots.{Lots}

@@ -6,6 +6,7 @@
 //! record of, or none; what is encoded comes back; a page's sector looks like that page of that house
 //! and no other, and zeros look like none; a refusal has its number.
 //! Trusted: the toolchain and what it names. This crate reads and writes nothing outside.
+#![tactic(auto)]
 
 pub mod buffers;
 pub mod commands;

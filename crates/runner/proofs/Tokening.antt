@@ -1,5 +1,5 @@
 -- Tokens that come back, and those that do not.
-use Rattle.std.proofs.Common.{◌≡◌, ℕ, ◌≤◌, Bool, true, false, cond, ◌||◌, eqb, ◌⊎◌, List, ◌++◌, length, IfOk, Some, None, Ok, Err, Option, Result, sym, refl, ap, ◌∙◌, subst, inl, inr, append-nil, arith}
+use Rattle.std.proofs.Common.{◌≡◌, ℕ, ◌≤◌, Bool, true, false, cond, ◌||◌, eqb, ◌⊎◌, List, length, IfOk, Some, None, Ok, Err, Option, Result, sym, refl, ap, ◌∙◌, subst, inl, inr, arith}
 use Rattle.std.proofs.lemmas.Bool.{eq-eqb, ne_eqb}
 use Rattle.protocol.specs.declared.faults.ExchangeFault.{ExchangeFault}
 use Rattle.protocol.specs.Faults.{reason_of}
@@ -12,7 +12,7 @@ use Rattle.runner.specs.declared.log.Entry.{Entry}
 use Rattle.runner.specs.declared.script.Call.{Call}
 use Rattle.runner.specs.declared.script.Call.TheVariants as call
 use Rattle.runner.specs.Playing.{writes, replays, made, ticket_back, after_entry, Answers}
-use Rattle.runner.proofs.Places.{gone_same, back_again, held_inside, cleared_held}
+use Rattle.runner.proofs.Places.{back_again, held_inside, cleared_held}
 
 -- a refusal that is answered 9 or 10, and any other
 comes : (f : ExchangeFault) → (reason_of f ≡ 9) ⊎ (reason_of f ≡ 10) → (eqb (reason_of f) 9 || eqb (reason_of f) 10) ≡ true

@@ -1,5 +1,5 @@
 -- The calls in a log are the script's.
-use Rattle.std.specs.Prelude.{◌≡◌, ℕ, Bool, true, false, cond, ◌||◌, List, [], ◌∷◌, ◌++◌, length, Some, None, Ok, Err, vec_items, Option, Result, ◌==◌}
+use Rattle.std.specs.Prelude.{◌≡◌, ℕ, Bool, true, false, cond, ◌||◌, List, [], ◌∷◌, ◌++◌, Some, None, Ok, Err, vec_items, Option, Result, ◌==◌}
 use Rattle.protocol.specs.declared.faults.ExchangeFault.{ExchangeFault}
 use Rattle.protocol.specs.declared.tokens.TicketNumbers.{TicketNumbers}
 use Rattle.protocol.specs.declared.tokens.ReceiptNumbers.{ReceiptNumbers}

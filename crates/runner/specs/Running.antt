@@ -1,5 +1,5 @@
 -- A script that was run: its log is the history of a run, keeps the promises, and has the script's calls.
-use Rattle.std.specs.Prelude.{◌≡◌, ℕ, List, [], ◌++◌, length, Err, vec_items}
+use Rattle.std.specs.Prelude.{◌≡◌, ℕ, List, [], ◌++◌, length, Err}
 use Rattle.market.specs.declared.interface.Market as market
 use Rattle.device.specs.declared.Device as device
 use Rattle.protocol.specs.declared.faults.ExchangeFault.{ExchangeFault}

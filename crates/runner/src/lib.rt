@@ -2,6 +2,8 @@
 //!
 //! Proved: whatever the script, wherever the power fails, the promises hold of the log, and the calls in it are the script's,
 //! with those that spend what tickets and receipts are left at the end. Trusted: the toolchain.
+#![tactic(auto)]
+
 mod acts;
 mod hands;
 pub mod log;

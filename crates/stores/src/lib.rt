@@ -2,6 +2,8 @@
 //!
 //! Proved: both stores do to image and waiting writes exactly what `Store` says, in the words of the crate `image`.
 //! Nothing is trusted but the toolchain.
+#![tactic(auto)]
+
 pub use cached::Cached;
 pub use plain::Plain;
 pub use store::Store;

@@ -2,5 +2,6 @@
 //!
 //! Proved: the printed line of a command, a notice or a resting order has the defined bytes.
 //! Trusted: the toolchain.
+#![tactic(auto)]
 
 pub mod lines;

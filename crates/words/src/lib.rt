@@ -2,6 +2,8 @@
 //!
 //! Proved: words are read only as the command that they spell.
 //! Trusted: the toolchain.
+#![tactic(auto)]
+
 ghost use Rattle.std.specs.Prelude.{◌≡◌, map, IfOk};
 ghost use Rattle.words.specs.Spellings.{Writes, Enters, Cancels, Spells};
 ghost use Rattle.texts.specs.Texts.{side_word};

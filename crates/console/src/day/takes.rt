@@ -40,7 +40,7 @@ fn count_front(list: &mut [Notice], n: usize, before: NoticeNumber)
 impl<M: Market> Day<M> {
     /// A fresh market, and nothing has come.
     pub fn new(heap: Global) -> Result<Day<M>, AllocError>
-        ensures { IfOk result (λ d. (means d.market ≡ start) × (d.commands ≡ 0) × (d.notices ≡ 0)) }
+        ensures { IfOk result (λ d. (M.means d.market ≡ M.start) × (d.commands ≡ 0) × (d.notices ≡ 0)) }
     {
         Ok(Day {
             market: M::new(heap)?,
@@ -52,9 +52,9 @@ impl<M: Market> Day<M> {
 
     /// Takes the bytes of a command: its notices then stand, counted, in the front of the list.
     pub fn take(&mut self, bytes: &[u8]) -> Result<usize, Refusal>
-        ensures { Took step (decoded bytes.now)
-            (record { state = means self.old.market; commands = self.old.commands; notices = self.old.notices; list = self.old.list })
-            (record { state = means self.new.market; commands = self.new.commands; notices = self.new.notices; list = self.new.list }) result }
+        ensures { Took M.step (decoded bytes.now)
+            (record { state = M.means self.old.market; commands = self.old.commands; notices = self.old.notices; list = self.old.list })
+            (record { state = M.means self.new.market; commands = self.new.commands; notices = self.new.notices; list = self.new.list }) result }
     {
         let command = Command::decode(bytes)?;
         if self.commands >= LAST_NUMBER {

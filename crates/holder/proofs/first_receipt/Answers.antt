@@ -11,7 +11,7 @@ use Rattle.holder.proofs.first_receipt.Goals as goal
 pub returns-in-Ok-write : goal.returns-in-Ok-write
 returns-in-Ok-write g c =
     let v = view g.M.Market g.D.Device in
-    given_run (λ n. Holds g.M.Market g.D.Device n c.sync-page.new.exchange) c.sync-page.result c.sync-page.ensures (record {
+    given_run (λ n. Holds g.M.Market g.D.Device n c.sync_page.new.exchange) c.sync_page.result c.sync_page.ensures (record {
       history = Write (ticket_said c.write.result) ∷ Stage c.args.bytes.now c.stage.result ∷ [];
       run = (v c.stage.new.self, (v c.set_up.new.self, begins (rules_of g.M.Market) (v c.args.exchange.now) (v c.set_up.new.self) tt c.in-Ok.ensures.did, c.stage.ensures.did), c.write.ensures.did);
     })

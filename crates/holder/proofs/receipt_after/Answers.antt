@@ -1,4 +1,4 @@
-use Rattle.std.proofs.Common.{◌≡◌, [], ◌∷◌, length, Some, Ok, sym, refl, ap, ◌∙◌, subst}
+use Rattle.std.proofs.Common.{[], ◌∷◌, length, Some, Ok, sym, refl, subst}
 use mathlib.Core.List.Memᴰ
 use Rattle.protocol.specs.Steps.{Restart, Open, Replay, Shelve}
 use Rattle.exchange.specs.Answers.{handed_with, replay_said}

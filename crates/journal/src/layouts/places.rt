@@ -1,6 +1,6 @@
 ghost use Rattle.std.specs.Prelude.{◌≡◌};
 ghost use Rattle.journal.specs.Places.{journal, page_place, InJournal, PagesApart};
-ghost use Rattle.journal.specs.Layouts.{Laid_out};
+ghost use Rattle.journal.specs.Layouts.{LaidOut};
 
 use super::Layout;
 use records::numbers::PageNumber;
@@ -8,7 +8,7 @@ use records::numbers::PageNumber;
 impl Layout {
     /// The layout of a device with so many sectors, unless they are too few or too many.
     pub fn new(size: usize) -> Option<Layout>
-        ensures { Laid_out size result }
+        ensures { LaidOut size result }
     {
         if 9 <= size && size <= 4096 {
             Some(Layout { size })

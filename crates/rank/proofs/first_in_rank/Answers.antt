@@ -2,7 +2,7 @@ use Rattle.std.proofs.Common.{◌≤◌, length, sym, rules}
 use Rattle.std.proofs.lemmas.List.MinMax.{IsFirstBest-keeps, IsFirstBest-takes}
 use Rattle.rank.proofs.Keyed.{ranks, first_found}
 use Rattle.rank.proofs.first_in_rank.Goals as goal
-use Rattle.rank.proofs.first_in_rank.Goals.{then-stands-before, else-stands-before}
+use Rattle.rank.proofs.first_in_rank.Goals.{then-stands_before, else-stands_before}
 
 pub loop-i-preserved : goal.loop-i-preserved
 loop-i-preserved g c =
@@ -10,9 +10,9 @@ loop-i-preserved g c =
     let o = ranks l.irreflexive l.chains l.total g.T.Rank.key in
     let x = c.index-xs-i in
     let y = c.index-xs-best in
-    elim c.if-stands-before.branch [
-      | then-stands-before w ↦ simp w.best-is (IsFirstBest-takes o _ _ _ x.result y.result c.loop-i.invariant c.loop-i-test.true x.is y.is (sym w.if-stands-before.ensures))
-      | else-stands-before w ↦ simp w.best-is (IsFirstBest-keeps o _ _ _ x.result y.result c.loop-i.invariant c.loop-i-test.true x.is y.is (sym w.if-stands-before.ensures))
+    elim c.if-stands_before.branch [
+      | then-stands_before w ↦ simp w.best-is (IsFirstBest-takes o _ _ _ x.result y.result c.loop-i.invariant c.loop-i-test.true x.is y.is (sym w.if-stands_before.ensures))
+      | else-stands_before w ↦ simp w.best-is (IsFirstBest-keeps o _ _ _ x.result y.result c.loop-i.invariant c.loop-i-test.true x.is y.is (sym w.if-stands_before.ensures))
     ]
 
 pub returns : goal.returns

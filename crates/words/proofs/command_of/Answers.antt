@@ -10,9 +10,9 @@ returns-in-cross c =
 pub returns-in-cancel : goal.returns-in-cancel
 returns-in-cancel c =
     let n : length c.args.words.now ≡ 3 = search rules in
-    cancelled _ _ c.cancel-of.result n c.in-cancel.is-cancel c.cancel-of.ensures
+    cancelled _ _ c.cancel_of.result n c.in-cancel.is-cancel c.cancel_of.ensures
 
 pub returns-in-enter : goal.returns-in-enter
 returns-in-enter c =
     let n : length c.args.words.now ≡ 5 = search rules in
-    entered _ _ c.enter-of.result n c.in-enter.is-enter c.enter-of.ensures
+    entered _ _ c.enter_of.result n c.in-enter.is-enter c.enter_of.ensures

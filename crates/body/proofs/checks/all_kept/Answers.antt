@@ -5,11 +5,11 @@ use Rattle.body.proofs.checks.all_kept.Goals as goal
 pub loop-x-init : goal.loop-x-init
 loop-x-init c = record { so = refl }
 
-pub returns-then-not-is-kept : goal.returns-then-not-is-kept
-returns-then-not-is-kept c = all_not c.loop-x.invariant _ c.loop-x-test.true (sym c.if-not-is-kept.ensures)
+pub returns-then-not-is_kept : goal.returns-then-not-is_kept
+returns-then-not-is_kept c = all_not c.loop-x.invariant _ c.loop-x-test.true (sym c.if-not-is_kept.ensures)
 
 pub loop-x-preserved : goal.loop-x-preserved
-loop-x-preserved c = all_more c.loop-x.invariant _ c.loop-x-test.true (sym c.if-not-is-kept.ensures)
+loop-x-preserved c = all_more c.loop-x.invariant _ c.loop-x-test.true (sym c.if-not-is_kept.ensures)
 
 pub returns : goal.returns
 returns c = all_all c.loop-x.invariant c.loop-x-test.false

@@ -5,11 +5,11 @@ use Rattle.body.proofs.checks.is_pairwise.Goals as goal
 pub loop-i-init : goal.loop-i-init
 loop-i-init c = record { so = refl }
 
-pub returns-then-not-relates-to-all : goal.returns-then-not-relates-to-all
-returns-then-not-relates-to-all c = pairs_not c.loop-i.invariant _ c.loop-i-test.true (sym c.if-not-relates-to-all.ensures)
+pub returns-then-not-relates_to_all : goal.returns-then-not-relates_to_all
+returns-then-not-relates_to_all c = pairs_not c.loop-i.invariant _ c.loop-i-test.true (sym c.if-not-relates_to_all.ensures)
 
 pub loop-i-preserved : goal.loop-i-preserved
-loop-i-preserved c = pairs_more c.loop-i.invariant _ c.loop-i-test.true (sym c.if-not-relates-to-all.ensures)
+loop-i-preserved c = pairs_more c.loop-i.invariant _ c.loop-i-test.true (sym c.if-not-relates_to_all.ensures)
 
 pub returns : goal.returns
 returns c = pairs_all c.loop-i.invariant c.loop-i-test.false

@@ -5,11 +5,11 @@ use Rattle.body.proofs.checks.relates_to_all.Goals as goal
 pub loop-y-init : goal.loop-y-init
 loop-y-init c = record { so = refl }
 
-pub returns-then-not-is-related : goal.returns-then-not-is-related
-returns-then-not-is-related c = all_not c.loop-y.invariant _ c.loop-y-test.true (sym c.if-not-is-related.ensures)
+pub returns-then-not-is_related : goal.returns-then-not-is_related
+returns-then-not-is_related c = all_not c.loop-y.invariant _ c.loop-y-test.true (sym c.if-not-is_related.ensures)
 
 pub loop-y-preserved : goal.loop-y-preserved
-loop-y-preserved c = all_more c.loop-y.invariant _ c.loop-y-test.true (sym c.if-not-is-related.ensures)
+loop-y-preserved c = all_more c.loop-y.invariant _ c.loop-y-test.true (sym c.if-not-is_related.ensures)
 
 pub returns : goal.returns
 returns c = all_all c.loop-y.invariant c.loop-y-test.false

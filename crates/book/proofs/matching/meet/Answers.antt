@@ -6,7 +6,7 @@ pub bounds-list-n : goal.bounds-list-n
 bounds-list-n c = sofar_room _ _ _ _ c.loop-notice.invariant.0 c.in-Some.ensures.cases
 
 pub loop-notice-preserved : goal.loop-notice-preserved
-loop-notice-preserved c = (sofar_more _ _ _ _ c.loop-notice.invariant.0 c.in-Some.ensures.cases, c.fill-first.ensures.capacity ∙ c.loop-notice.invariant.1)
+loop-notice-preserved c = (sofar_more _ _ _ _ c.loop-notice.invariant.0 c.in-Some.ensures.cases, c.fill_first.ensures.capacity ∙ c.loop-notice.invariant.1)
 
 pub returns : goal.returns
-returns c = record { met = sofar_all _ _ _ _ c.loop-notice.invariant.0 c.in-default.ensures.cases; capacity = c.fill-first.ensures.capacity ∙ c.loop-notice.invariant.1 }
+returns c = record { met = sofar_all _ _ _ _ c.loop-notice.invariant.0 c.in_default.ensures.cases; capacity = c.fill_first.ensures.capacity ∙ c.loop-notice.invariant.1 }

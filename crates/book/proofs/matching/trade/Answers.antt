@@ -5,6 +5,6 @@ use Rattle.book.proofs.matching.trade.Goals as goal
 pub returns-in-Some : goal.returns-in-Some
 returns-in-Some c = record {
   traded = remainder_dropped c.meet-n.ensures.met _ c.if-taker-eq0.false _ _ c.in-Some.ensures.rows (search rules);
-  own-capacity = search rules;
-  opposite-capacity = search rules;
+  own_capacity = search rules;
+  opposite_capacity = search rules;
 }

@@ -6,8 +6,8 @@ use Rattle.call.proofs.clearing.lots_offered.Goals.{then-accepts, else-accepts}
 pub loop-row-init : goal.loop-row-init
 loop-row-init c = record { so = omega arith }
 
-pub overflow-add-lots : goal.overflow-add-lots
-overflow-add-lots c = let k = summed_fits c.loop-row.invariant _ c.loop-row-test.true (sym c.if-accepts.ensures) c.requires in omega arith
+pub overflow_add-lots : goal.overflow_add-lots
+overflow_add-lots c = let k = summed_fits c.loop-row.invariant _ c.loop-row-test.true (sym c.if-accepts.ensures) c.requires in omega arith
 
 pub loop-row-preserved : goal.loop-row-preserved
 loop-row-preserved c =

@@ -1,6 +1,6 @@
-use Rattle.std.proofs.Common.{◌≡◌, ℕ, Bool, List, sym, refl, ap, ◌∙◌, arith}
+use Rattle.std.proofs.Common.{sym, refl, ap, ◌∙◌, arith}
 use Rattle.device.specs.Meaning.{Reading}
-use Rattle.image.specs.Image.{readable, filled, seen}
+use Rattle.image.specs.Image.{readable, filled}
 use Rattle.image.proofs.Changes.{reads_bytes, reads_torn, seen_within, seen_past}
 use Rattle.image.proofs.sectors.find.Goals as goal
 
@@ -17,4 +17,4 @@ returns-then-image-at-ne0 c =
 pub returns : goal.returns
 returns c =
     let e = seen_within c.args.image.now c.args.sector (omega arith) ∙ reads_bytes c.args.image.now c.args.sector c.if-image-at-ne0.false in
-    record { same = c.copy-at.ensures.same; found = ap readable (sym e); filled = c.copy-at.ensures.bytes ∙ ap (λ (x : Reading). filled c.args.buffer.now x) (sym e) }
+    record { same = c.copy_at.ensures.same; found = ap readable (sym e); filled = c.copy_at.ensures.bytes ∙ ap (λ (x : Reading). filled c.args.buffer.now x) (sym e) }

@@ -1,4 +1,4 @@
-use Rattle.std.proofs.Common.{◌≡◌, ℕ, ◌+◌, ◌-◌, ◌<◌, ◌≤◌, List, [], ◌∷◌, ◌++◌, length, take, drop, set, sym, refl, ap, ◌∙◌, append_assoc, arith}
+use Rattle.std.proofs.Common.{◌≡◌, ℕ, ◌+◌, ◌<◌, ◌≤◌, List, [], ◌∷◌, ◌++◌, length, take, drop, set, ap, ◌∙◌, append_assoc, arith}
 use borrow.Rule.Slice.PartMut.{put_mid}
 use Rattle.std.proofs.lemmas.List.{take_more_set, drop-drop, drop-set-lt}
 use Rattle.image.specs.Image.{list_put_at}
@@ -12,4 +12,4 @@ put_is xs at k new h e =
     rw (take_more_set xs at 0 l, f) (append_assoc (take at xs) (0 ∷ []) (new ++ drop (at + 513) xs))
 
 pub returns : goal.returns
-returns c = rw c.copy-from-slice.ensures.after (put_is _ _ _ _ c.requires (omega arith))
+returns c = rw c.copy_from_slice.ensures.after (put_is _ _ _ _ c.requires (omega arith))

@@ -6,9 +6,9 @@ use Rattle.journal_io.proofs.loading.open_snapshot.Goals as goal
 pub returns : goal.returns
 returns g c =
     let m = g.D.Device.meaning in
-    let d = c.in-ok-wake-up.ensures in
-    let e = c.take-first.ensures in
+    let d = c.in_ok-wake_up.ensures in
+    let e = c.take_first.ensures in
     record {
-      did = opens c.args.house (rules_of g.M.Market) (m c.args.device.now) (m c.wake-up.new.device) (m c.take-first.new.device) (g.M.Market.means c.take-first.new.market) d.did c.take-first.result e.did;
+      did = opens c.args.house (rules_of g.M.Market) (m c.args.device.now) (m c.wake_up.new.device) (m c.take_first.new.device) (g.M.Market.means c.take_first.new.market) d.did c.take_first.result e.did;
       kept = e.kept ∙ d.kept;
     }

@@ -1,4 +1,4 @@
-use Rattle.std.proofs.Common.{◌≡◌, true, sym, ◌∙◌, rules}
+use Rattle.std.proofs.Common.{◌≡◌, true, rules}
 use Rattle.records.specs.Pages.{bytes_look_for, held}
 use Rattle.device.specs.Meaning.{bytes}
 use Rattle.journal_io.proofs.Pagings.{whole_head, whole_numbers}

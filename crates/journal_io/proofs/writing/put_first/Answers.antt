@@ -5,12 +5,12 @@ use Rattle.journal_io.specs.Running.{first_writes, snapshot_writes}
 use Rattle.journal_io.proofs.Rows.{running_append, cut_first}
 use Rattle.journal_io.proofs.writing.put_first.Goals as goal
 
-pub returns-in-err-clear-all : goal.returns-in-err-clear-all
-returns-in-err-clear-all g c =
-    let e = c.in-err-clear-all.ensures in
-    record { did = cut_first _ _ (first_writes ++ blanks 8 c.args.journal) (snapshot_writes Zero c.args.body.now c.args.header.now) _ c.from-residual.result e.did c.from-residual.ensures.1; kept = e.kept }
+pub returns-in_err-clear_all : goal.returns-in_err-clear_all
+returns-in_err-clear_all g c =
+    let e = c.in_err-clear_all.ensures in
+    record { did = cut_first _ _ (first_writes ++ blanks 8 c.args.journal) (snapshot_writes Zero c.args.body.now c.args.header.now) _ c.from_residual.result e.did c.from_residual.ensures.1; kept = e.kept }
 
 pub returns : goal.returns
 returns g c =
-    let e = c.in-ok-clear-all.ensures in
-    record { did = running_append _ _ _ (first_writes ++ blanks 8 c.args.journal) (snapshot_writes Zero c.args.body.now c.args.header.now) c.put-snapshot.result e.did c.put-snapshot.ensures.did; kept = c.put-snapshot.ensures.kept ∙ e.kept }
+    let e = c.in_ok-clear_all.ensures in
+    record { did = running_append _ _ _ (first_writes ++ blanks 8 c.args.journal) (snapshot_writes Zero c.args.body.now c.args.header.now) c.put_snapshot.result e.did c.put_snapshot.ensures.did; kept = c.put_snapshot.ensures.kept ∙ e.kept }

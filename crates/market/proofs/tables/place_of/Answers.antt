@@ -5,11 +5,11 @@ use Rattle.market.proofs.tables.place_of.Goals as goal
 pub loop-i-init : goal.loop-i-init
 loop-i-init g c = record { so = refl }
 
-pub returns-then-stands-before : goal.returns-then-stands-before
-returns-then-stands-before g c = (omega arith, passed_here _ c.loop-i.invariant c.loop-i-test.true c.index-xs-i.is (sym c.if-stands-before.ensures))
+pub returns-then-stands_before : goal.returns-then-stands_before
+returns-then-stands_before g c = (omega arith, passed_here _ c.loop-i.invariant c.loop-i-test.true c.index-xs-i.is (sym c.if-stands_before.ensures))
 
 pub loop-i-preserved : goal.loop-i-preserved
-loop-i-preserved g c = passed_more _ c.loop-i.invariant c.loop-i-test.true c.index-xs-i.is (sym c.if-stands-before.ensures)
+loop-i-preserved g c = passed_more _ c.loop-i.invariant c.loop-i-test.true c.index-xs-i.is (sym c.if-stands_before.ensures)
 
 pub returns : goal.returns
 returns g c = (omega arith, passed_all c.loop-i.invariant c.loop-i-test.false)

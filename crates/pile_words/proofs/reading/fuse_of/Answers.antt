@@ -5,4 +5,4 @@ use Rattle.pile_words.proofs.reading.fuse_of.Goals as goal
 pub returns : goal.returns
 returns c =
     let parts = split_parts 58 c.args.text.now (Some (c.in-Some.count, c.in-Some.plan)) c.in-Some.ensures.cases (lit< tt) in
-    (c.in-Some.count.now, c.in-Some.plan.now, parts.0, c.in-ok-left.ensures, c.in-ok-bits.ensures)
+    (c.in-Some.count.now, c.in-Some.plan.now, parts.0, c.in_ok-left.ensures, c.in_ok-bits.ensures)

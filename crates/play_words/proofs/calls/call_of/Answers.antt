@@ -24,32 +24,32 @@ returns-in-restart c =
 pub returns-in-open : goal.returns-in-open
 returns-in-open c =
     let n : length c.args.words.now ≡ 1 = search rules in
-    one _ _ n ∙ ap (λ w. w ∷ []) c.in-open.is_open
+    one _ _ n ∙ ap (λ w. w ∷ []) c.in-open.is-open
 
-pub returns-in-ok-number-of : goal.returns-in-ok-number-of
-returns-in-ok-number-of c =
+pub returns-in_ok-number_of-in-deliver : goal.returns-in_ok-number_of-in-deliver
+returns-in_ok-number_of-in-deliver c =
     let n : length c.args.words.now ≡ 2 = search rules in
-    (_, two_of _ c.args.words.now _ n c.in-deliver.is-deliver, c.in-ok-number-of.ensures)
+    (_, two_of _ c.args.words.now _ n c.in-deliver.is-deliver, c.in_ok-number_of-in-deliver.ensures)
 
-pub returns-in-ok-number-of-2 : goal.returns-in-ok-number-of-2
-returns-in-ok-number-of-2 c =
+pub returns-in_ok-number_of-in-shelve : goal.returns-in_ok-number_of-in-shelve
+returns-in_ok-number_of-in-shelve c =
     let n : length c.args.words.now ≡ 2 = search rules in
-    (_, two_of _ c.args.words.now _ n c.in-shelve.is-shelve, c.in-ok-number-of-2.ensures)
+    (_, two_of _ c.args.words.now _ n c.in-shelve.is-shelve, c.in_ok-number_of-in-shelve.ensures)
 
-pub returns-in-ok-room : goal.returns-in-ok-room
-returns-in-ok-room c =
+pub returns-in_ok-room-in-sync : goal.returns-in_ok-room-in-sync
+returns-in_ok-room-in-sync c =
     let n : 2 ≤ length c.args.words.now = search rules in
     let e : word blank c.args.words.now 0 ≡ codes "sync" = search rules in
-    (_, _, front_two _ c.args.words.now _ n e, c.in-ok-ticket.ensures, c.in-ok-room.ensures)
+    (_, _, front_two _ c.args.words.now _ n e, c.in_ok-ticket-in-sync.ensures, c.in_ok-room-in-sync.ensures)
 
-pub returns-in-ok-room-2 : goal.returns-in-ok-room-2
-returns-in-ok-room-2 c =
+pub returns-in_ok-room-in-replay : goal.returns-in_ok-room-in-replay
+returns-in_ok-room-in-replay c =
     let n : 1 ≤ length c.args.words.now = search rules in
     let e : word blank c.args.words.now 0 ≡ codes "replay" = search rules in
-    (_, front _ c.args.words.now _ n e, c.in-ok-room-2.ensures)
+    (_, front _ c.args.words.now _ n e, c.in_ok-room-in-replay.ensures)
 
-pub returns-in-ok-stage-of : goal.returns-in-ok-stage-of
-returns-in-ok-stage-of c =
+pub returns-in_ok-stage_of-in-stage : goal.returns-in_ok-stage_of-in-stage
+returns-in_ok-stage_of-in-stage c =
     let n : 1 ≤ length c.args.words.now = search rules in
     let e : word blank c.args.words.now 0 ≡ codes "stage" = search rules in
-    (_, front _ c.args.words.now _ n e, c.in-ok-stage-of.ensures)
+    (_, front _ c.args.words.now _ n e, c.in_ok-stage_of-in-stage.ensures)

@@ -10,4 +10,4 @@ returns-in-empty c =
 pub returns-in-len1 : goal.returns-in-len1
 returns-in-len1 c =
     let n : length c.args.words.now ≡ 1 = search rules in
-    lends_one _ _ c.number-of.result n c.number-of.ensures
+    lends_one _ _ c.number_of.result n c.number_of.ensures

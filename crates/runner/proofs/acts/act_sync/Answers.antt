@@ -8,34 +8,34 @@ use Rattle.runner.proofs.Places.{gone_same}
 use Rattle.runner.proofs.Tokening.{back_or_gone, taken_leaves}
 use Rattle.runner.proofs.acts.act_sync.Goals as goal
 
-pub returns-in-default : goal.returns-in-default
-returns-in-default g c =
+pub returns-in_default : goal.returns-in_default
+returns-in_default g c =
     let xs = vec_items c.args.hand.now.tickets in
-    let gone : held xs c.args.number ≡ None = sym c.in-default.ensures.taken in
-    let e : vec_items c.take-token.new.tokens ≡ xs = c.in-default.ensures.rest ∙ gone_same xs c.args.number gone in
+    let gone : held xs c.args.number ≡ None = sym c.in_default.ensures.taken in
+    let e : vec_items c.take_token.new.tokens ≡ xs = c.in_default.ensures.rest ∙ gone_same xs c.args.number gone in
     record {
       told = refl;
       made = (sym (ap (λ o. with_ticket o c.args.room) gone), (λ i. record { tickets = e i; receipts = vec_items c.args.hand.now.receipts }));
     }
 
-pub put-back-requires : goal.put-back-requires
-put-back-requires g c =
+pub put_back-requires : goal.put_back-requires
+put_back-requires g c =
     let xs = vec_items c.args.hand.now.tickets in
     let e = c.in-Some.ensures in
-    let l : vec_len c.take-token.new.tokens ≡ length xs = e.room.0 ∙ c.args.hand.now.tickets.ok.0 in
-    let k = taken_leaves xs (vec_items c.take-token.new.tokens) c.args.number c.in-Some.ticket _ (sym e.taken) e.rest l in
+    let l : vec_len c.take_token.new.tokens ≡ length xs = e.room.0 ∙ c.args.hand.now.tickets.ok.0 in
+    let k = taken_leaves xs (vec_items c.take_token.new.tokens) c.args.number c.in-Some.ticket _ (sym e.taken) e.rest l in
     record { gone = k.0; there = k.1 }
 
 pub returns : goal.returns
 returns g c =
     let xs = vec_items c.args.hand.now.tickets in
     let e = c.in-Some.ensures in
-    let s = c.sync-with-answer.ensures in
+    let s = c.sync_with-answer.ensures in
     let number : c.numbers-numbers.result ≡ c.in-Some.ticket.numbers = c.numbers-numbers.ensures in
-    let room : vec_len c.in-ok-list.list ≡ c.args.room = search rules in
-    let tickets = c.put-back.ensures ∙ back_or_gone xs (vec_items c.take-token.new.tokens) c.args.number c.in-Some.ticket _ _ (sym e.taken) e.rest s.back in
+    let room : vec_len c.in_ok-list.list ≡ c.args.room = search rules in
+    let tickets = c.put_back.ensures ∙ back_or_gone xs (vec_items c.take_token.new.tokens) c.args.number c.in-Some.ticket _ _ (sym e.taken) e.rest s.back in
     record {
-      told = subst₂ (λ t n. Called g.M.Market g.D.Device c.args.exchange.now (Sync t n (sync_answer c.sync-with-answer.result.answer)) c.sync-with-answer.new.exchange) (sym number) room s.told;
+      told = subst₂ (λ t n. Called g.M.Market g.D.Device c.args.exchange.now (Sync t n (sync_answer c.sync_with-answer.result.answer)) c.sync_with-answer.new.exchange) (sym number) room s.told;
       made = (
         ap (λ t. syncs t c.args.room) number ∙ ap (λ o. with_ticket o c.args.room) e.taken,
         (λ i. record { tickets = tickets i; receipts = s.receipts i }),

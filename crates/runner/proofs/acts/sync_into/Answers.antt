@@ -8,7 +8,7 @@ use Rattle.runner.proofs.acts.sync_into.Goals as goal
 pub returns : goal.returns
 returns g c =
     let long : length c.sync.new.list ≡ vec_len c.args.list.now = search rules in
-    let lent : length c.as-mut-slice.result.now ≡ vec_len c.args.list.now = search rules in
+    let lent : length c.as_mut_slice.result.now ≡ vec_len c.args.list.now = search rules in
     let whole = take_at c.sync.new.list _ c.args.list.now.len long in
     record {
       did = subst₂ (λ n l. Called g.M.Market g.D.Device c.args.exchange.now (Sync c.args.ticket.numbers n (sync_said c.sync.result l)) c.sync.new.self) lent (sym whole) c.sync.ensures.did;

@@ -1,4 +1,4 @@
-use Rattle.std.proofs.Common.{◌<◌, length, vec_items, sym, arith, rules}
+use Rattle.std.proofs.Common.{◌<◌, length, vec_items, sym, rules}
 use Rattle.runner.proofs.Places.{held_past, cleared_past}
 use Rattle.runner.proofs.hands.take_token.Goals as goal
 

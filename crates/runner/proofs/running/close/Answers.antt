@@ -7,5 +7,5 @@ pub returns-in-Ok : goal.returns-in-Ok
 returns-in-Ok g c =
     let m = g.M.Market in
     let d = g.D.Device in
-    closed_then m d c.args.exchange.now c.close-tickets.new.exchange c.close-receipts.new.exchange (vec_items c.args.log.now) (vec_items c.close-tickets.new.log) (vec_items c.close-receipts.new.log)
-    (subst (λ es. Closed m d c.args.exchange.now es c.close-tickets.new.exchange (vec_items c.close-tickets.new.log)) c.reserve.ensures.items c.close-tickets.ensures.closed) c.close-receipts.ensures.closed
+    closed_then m d c.args.exchange.now c.close_tickets.new.exchange c.close_receipts.new.exchange (vec_items c.args.log.now) (vec_items c.close_tickets.new.log) (vec_items c.close_receipts.new.log)
+    (subst (λ es. Closed m d c.args.exchange.now es c.close_tickets.new.exchange (vec_items c.close_tickets.new.log)) c.reserve.ensures.items c.close_tickets.ensures.closed) c.close_receipts.ensures.closed

@@ -1,4 +1,4 @@
-use Rattle.std.proofs.Common.{◌≡◌, [], Err, sym, subst₂}
+use Rattle.std.proofs.Common.{Err, sym, subst₂}
 use Rattle.protocol.specs.Steps.{Sync}
 use Rattle.protocol.specs.declared.tokens.TicketNumbers.{TicketNumbers}
 use Rattle.exchange.specs.declared.tokens.SyncRefusal.{SyncRefusal}

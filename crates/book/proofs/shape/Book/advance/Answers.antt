@@ -3,5 +3,5 @@ use Rattle.market.proofs.StepLaws.{spent}
 use Rattle.book.specs.Steps.{acted}
 use Rattle.book.proofs.shape.Book.advance.Goals as goal
 
-pub returns-then-self-ge-LAST-NUMBER : goal.returns-then-self-ge-LAST-NUMBER
-returns-then-self-ge-LAST-NUMBER c = (search rules, spent acted _ c.args.command.now _ c.if-self-ge-LAST-NUMBER.true)
+pub returns-then-self-ge-LAST_NUMBER : goal.returns-then-self-ge-LAST_NUMBER
+returns-then-self-ge-LAST_NUMBER c = (search rules, spent acted _ c.args.command.now _ c.if-self-ge-LAST_NUMBER.true)

@@ -17,20 +17,22 @@ trade-requires-in-Sell c =
     let f = book_fact (book_state b) b.ok in
     record { ranked = f.0.buys.ranked; own_room = b.room.1; few = f.0.buys.few; room = c.requires.long }
 
-pub invariant-of-self : goal.invariant-of-self
-invariant-of-self c =
+pub invariant_of-self : goal.invariant_of-self
+invariant_of-self c =
     let b = c.args.self.now in
     let h = book_state b in
-    let e = c.trade.ensures in (
-      bought_valid h (arriving h c.args.member c.args.price c.args.lots) refl (arriving_kept h c.args.member c.args.price c.args.lots c.requires.ranged) c.requires.more b.ok e.traded,
-      ((omega (arith, b.room.0, e.own-capacity), omega (arith, b.room.1, e.opposite-capacity)), tt),
-    )
+    let e = c.trade.ensures in
+    record {
+      ok = bought_valid h (arriving h c.args.member c.args.price c.args.lots) refl (arriving_kept h c.args.member c.args.price c.args.lots c.requires.ranged) c.requires.more b.ok e.traded;
+      room = (omega (arith, b.room.0, e.own_capacity), omega (arith, b.room.1, e.opposite_capacity));
+    }
 
-pub invariant-of-self-in-Sell : goal.invariant-of-self-in-Sell
-invariant-of-self-in-Sell c =
+pub invariant_of-self-in-Sell : goal.invariant_of-self-in-Sell
+invariant_of-self-in-Sell c =
     let b = c.args.self.now in
     let h = book_state b in
-    let e = c.trade-in-Sell.ensures in (
-      sold_valid h (arriving h c.args.member c.args.price c.args.lots) refl (arriving_kept h c.args.member c.args.price c.args.lots c.requires.ranged) c.requires.more b.ok e.traded,
-      ((omega (arith, b.room.0, e.opposite-capacity), omega (arith, b.room.1, e.own-capacity)), tt),
-    )
+    let e = c.trade-in-Sell.ensures in
+    record {
+      ok = sold_valid h (arriving h c.args.member c.args.price c.args.lots) refl (arriving_kept h c.args.member c.args.price c.args.lots c.requires.ranged) c.requires.more b.ok e.traded;
+      room = (omega (arith, b.room.0, e.opposite_capacity), omega (arith, b.room.1, e.own_capacity));
+    }

@@ -4,7 +4,7 @@ use Rattle.book.specs.Means.{book_state}
 use Rattle.book.specs.Sounds.{passed_valid}
 use Rattle.book.proofs.shape.Book.pass.Goals as goal
 
-pub invariant-of-self : goal.invariant-of-self
-invariant-of-self c =
+pub invariant_of-self : goal.invariant_of-self
+invariant_of-self c =
     let b = c.args.self.now in
-    (subst Valid (sym c.pass.ensures.state) (passed_valid (book_state b) c.requires b.ok), (c.pass.ensures.room b.room, tt))
+    record { ok = subst Valid (sym c.pass.ensures.state) (passed_valid (book_state b) c.requires b.ok); room = c.pass.ensures.room b.room }

@@ -3,5 +3,5 @@ use Rattle.market.proofs.StepLaws.{spent}
 use Rattle.call.specs.Steps.{acted}
 use Rattle.call.proofs.shape.CallAuction.advance.Goals as goal
 
-pub returns-then-self-ge-LAST-NUMBER : goal.returns-then-self-ge-LAST-NUMBER
-returns-then-self-ge-LAST-NUMBER c = (search rules, spent acted _ c.args.command.now _ c.if-self-ge-LAST-NUMBER.true)
+pub returns-then-self-ge-LAST_NUMBER : goal.returns-then-self-ge-LAST_NUMBER
+returns-then-self-ge-LAST_NUMBER c = (search rules, spent acted _ c.args.command.now _ c.if-self-ge-LAST_NUMBER.true)

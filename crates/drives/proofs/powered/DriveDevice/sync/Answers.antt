@@ -4,9 +4,9 @@ use Rattle.drives.proofs.powered.DriveDevice.sync.Goals as goal
 
 pub returns : goal.returns
 returns g c =
-    let own = c.sync-exactly.ensures.own in
+    let own = c.sync_exactly.ensures.own in
     record {
-      did = sync_did (state g.S.Store.image g.S.Store.waiting c.args.self.now) (state g.S.Store.image g.S.Store.waiting c.sync-exactly.new.self) c.sync-exactly.result own;
+      did = sync_did (state g.S.Store.image g.S.Store.waiting c.args.self.now) (state g.S.Store.image g.S.Store.waiting c.sync_exactly.new.self) c.sync_exactly.result own;
       own = own;
-      kept = c.sync-exactly.ensures.kept;
+      kept = c.sync_exactly.ensures.kept;
     }

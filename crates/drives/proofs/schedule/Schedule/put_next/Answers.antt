@@ -1,4 +1,4 @@
-use Rattle.std.proofs.Common.{◌≡◌, ℕ, ◌-◌, ◌<◌, ◌≤◌, List, [], ◌∷◌, length, get_or, take, drop, Some, sym, refl, ap, ◌∙◌, arith, rules}
+use Rattle.std.proofs.Common.{◌≡◌, ◌-◌, ◌≤◌, List, [], ◌∷◌, length, get_or, take, drop, Some, sym, refl, ◌∙◌, arith, rules}
 use Rattle.std.proofs.lemmas.List.{take_all}
 use Rattle.image.specs.declared.fuse.Fuse.{Fuse}
 use Rattle.drives.specs.Drives.{State, fused}
@@ -17,4 +17,4 @@ pub returns-in-len1-up : goal.returns-in-len1-up
 returns-in-len1-up g c =
     let fs = c.args.self.now.fuses.now in
     let h : 1 ≤ length fs = search rules in
-    record { drive = c.put-fuse.ensures.state ∙ sym (next_is fs _ _ h); fuses = rest_is fs h; kept = c.put-fuse.ensures.kept }
+    record { drive = c.put_fuse.ensures.state ∙ sym (next_is fs _ _ h); fuses = rest_is fs h; kept = c.put_fuse.ensures.kept }

@@ -1,4 +1,4 @@
-use Rattle.std.proofs.Common.{refl, rules}
+use Rattle.std.proofs.Common.{refl}
 use Rattle.protocol.specs.Steps.{refused}
 use Rattle.exchange.proofs.state.Exchange.deliver.Goals as goal
 

@@ -6,11 +6,11 @@ use Rattle.exchange.proofs.Opening.{open_fails}
 use Rattle.exchange.proofs.Refusing.{open_refused}
 use Rattle.exchange.proofs.state.Exchange.open.Goals as goal
 
-pub returns-in-err-way : goal.returns-in-err-way
-returns-in-err-way g c =
+pub returns-in_err-way : goal.returns-in_err-way
+returns-in_err-way g c =
     let x = view g.M.Market g.D.Device c.args.self.now in
     record {
-      did = open_refused (world_of (rules_of g.M.Market) x) x _ c.from-residual.result c.in-err-way.ensures.judged c.from-residual.ensures.1;
+      did = open_refused (world_of (rules_of g.M.Market) x) x _ c.from_residual.result c.in_err-way.ensures.judged c.from_residual.ensures.1;
       kept = refl;
     }
 
@@ -20,6 +20,6 @@ returns-in-Err g c =
     let w = world_of (rules_of g.M.Market) x in
     let e = c.in-Err.ensures in
     record {
-      did = open_fails w x (view g.M.Market g.D.Device c.restart.new.self) (g.D.Device.meaning c.open-snapshot.new.device) (g.M.Market.means c.open-snapshot.new.market) c.in-Err.fault c.into.result c.in-ok-way.ensures.judged (g.D.Device.lawful c.open-snapshot.new.device) e.did c.into.ensures c.restart.ensures.did;
+      did = open_fails w x (view g.M.Market g.D.Device c.restart.new.self) (g.D.Device.meaning c.open_snapshot.new.device) (g.M.Market.means c.open_snapshot.new.market) c.in-Err.fault c.into.result c.in_ok-way.ensures.judged (g.D.Device.lawful c.open_snapshot.new.device) e.did c.into.ensures c.restart.ensures.did;
       kept = ap g.D.Device.lender c.restart.ensures.kept ∙ e.kept;
     }

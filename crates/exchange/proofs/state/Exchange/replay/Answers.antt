@@ -1,4 +1,4 @@
-use Rattle.std.proofs.Common.{◌≡◌, suc, length, Ok, Err, vec_items, sym, refl, ap, ◌∙◌, subst, subst₂}
+use Rattle.std.proofs.Common.{◌≡◌, suc, length, Ok, Err, refl, ap, ◌∙◌, subst, subst₂}
 use Rattle.records.specs.Pages.{held}
 use Rattle.journal.specs.Places.{page_place}
 use Rattle.protocol.specs.Worlds.{rules_of, given, page_head}
@@ -13,12 +13,12 @@ use Rattle.exchange.proofs.Opening.{replay_fails, idle_here}
 use Rattle.exchange.proofs.Refusing.{replay_refused, replay_list_refused}
 use Rattle.exchange.proofs.state.Exchange.replay.Goals as goal
 
-pub returns-in-err-way : goal.returns-in-err-way
-returns-in-err-way g c =
+pub returns-in_err-way : goal.returns-in_err-way
+returns-in_err-way g c =
     let x = view g.M.Market g.D.Device c.args.self.now in
     record {
-      did = replay_refused (world_of (rules_of g.M.Market) x) x _ (length c.args.list.now) c.args.list.now c.from-residual.result c.in-err-way.ensures.judged c.from-residual.ensures.1;
-      list = replay_list_refused c.args.list.now _ c.from-residual.result c.from-residual.ensures.1;
+      did = replay_refused (world_of (rules_of g.M.Market) x) x _ (length c.args.list.now) c.args.list.now c.from_residual.result c.in_err-way.ensures.judged c.from_residual.ensures.1;
+      list = replay_list_refused c.args.list.now _ c.from_residual.result c.from_residual.ensures.1;
       kept = refl;
     }
 
@@ -28,44 +28,44 @@ returns-in-Some g c =
     let x = view g.M.Market g.D.Device c.args.self.now in
     let w = world_of (rules_of g.M.Market) x in
     let cs = held c.in-Some.page.commands in
-    let place : c.page-sector-sector.result ≡ next_sector w x = c.page-sector-sector.ensures.place ∙ (λ i. page_place (c.in-ok-way.ensures.allowed.3 i) (c.next-head-head.ensures i).number.0) in
-    let n = g.D.Device.meaning c.read-page.new.device in
+    let place : c.page_sector-sector.result ≡ next_sector w x = c.page_sector-sector.ensures.place ∙ (λ i. page_place (c.in_ok-way.ensures.allowed.3 i) (c.next_head-head.ensures i).number.0) in
+    let n = g.D.Device.meaning c.read_page.new.device in
     let head = page_head w (suc x.pages) (suc x.commands) in
     let e = c.in-Ok.ensures in
     let f : There x.device (next_sector w x) head cs n =
-    subst (λ o. PageFound x.device (next_sector w x) head (Ok o) n) c.in-Some.is (subst₂ (λ s h. PageFound x.device s h (Ok c.in-Ok.found) n) place c.next-head-head.ensures e.did) in
-    let slice : c.as-slice.result.now ≡ cs = c.as-slice.ensures in
-    let a = c.apply-read.ensures.applied in
+    subst (λ o. PageFound x.device (next_sector w x) head (Ok o) n) c.in-Some.is (subst₂ (λ s h. PageFound x.device s h (Ok c.in-Ok.found) n) place c.next_head-head.ensures e.did) in
+    let slice : c.as_slice.result.now ≡ cs = c.as_slice.ensures in
+    let a = c.apply_read.ensures.applied in
     let vs = given w x.market cs in
-    let receives : c.apply-read.result.numbers ≡ receipt w x.pages x.commands x.notices x.market cs = a.receipt ∙ ap (receipt w x.pages x.commands x.notices x.market) slice in
-    let count : c.apply-read.result.numbers.notices ≡ length vs = ap (λ (z : ReceiptNumbers). z.notices) receives in
-    let list : c.apply-read.new.list ≡ over c.args.list.now (handed w x.notices x.market cs) = a.list ∙ ap (λ z. over c.args.list.now (handed w x.notices x.market z)) slice in
+    let receives : c.apply_read.result.numbers ≡ receipt w x.pages x.commands x.notices x.market cs = a.receipt ∙ ap (receipt w x.pages x.commands x.notices x.market) slice in
+    let count : c.apply_read.result.numbers.notices ≡ length vs = ap (λ (z : ReceiptNumbers). z.notices) receives in
+    let list : c.apply_read.new.list ≡ over c.args.list.now (handed w x.notices x.market cs) = a.list ∙ ap (λ z. over c.args.list.now (handed w x.notices x.market z)) slice in
     record {
       did = record {
-        allowed = c.in-ok-way.ensures.judged;
-        did = idle_here x.device n (next_sector w x) (g.D.Device.lawful c.read-page.new.device) f.same f.lit;
+        allowed = c.in_ok-way.ensures.judged;
+        did = idle_here x.device n (next_sector w x) (g.D.Device.lawful c.read_page.new.device) f.same f.lit;
         content = f.content;
         there = f.here;
         looks = f.looks;
         page = cs;
         good = f.good;
         answer = receives;
-        notices = front_taken c.args.list.now c.apply-read.new.list vs x.notices _ count list;
+        notices = front_taken c.args.list.now c.apply_read.new.list vs x.notices _ count list;
         result = a.result ∙ (λ i. applied w Replaying (slice i) (f.same i) x);
       };
-      list = front_over c.args.list.now c.apply-read.new.list vs x.notices _ count list;
-      kept = ap g.D.Device.lender c.apply-read.ensures.kept ∙ e.kept;
+      list = front_over c.args.list.now c.apply_read.new.list vs x.notices _ count list;
+      kept = ap g.D.Device.lender c.apply_read.ensures.kept ∙ e.kept;
     }
 
 pub returns-in-Err : goal.returns-in-Err
 returns-in-Err g c =
     let x = view g.M.Market g.D.Device c.args.self.now in
     let w = world_of (rules_of g.M.Market) x in
-    let n = g.D.Device.meaning c.read-page.new.device in
-    let place : c.page-sector-sector.result ≡ next_sector w x = c.page-sector-sector.ensures.place ∙ (λ i. page_place (c.in-ok-way.ensures.allowed.3 i) (c.next-head-head.ensures i).number.0) in
+    let n = g.D.Device.meaning c.read_page.new.device in
+    let place : c.page_sector-sector.result ≡ next_sector w x = c.page_sector-sector.ensures.place ∙ (λ i. page_place (c.in_ok-way.ensures.allowed.3 i) (c.next_head-head.ensures i).number.0) in
     let e = c.in-Err.ensures in
     record {
-      did = replay_fails w x (view g.M.Market g.D.Device c.restart.new.self) n (length c.args.list.now) c.in-Err.fault c.into.result c.in-ok-way.ensures.judged (g.D.Device.lawful c.read-page.new.device) (subst₂ (λ s h. PageFound x.device s h (Err c.in-Err.fault) n) place c.next-head-head.ensures e.did) c.into.ensures c.restart.ensures.did;
+      did = replay_fails w x (view g.M.Market g.D.Device c.restart.new.self) n (length c.args.list.now) c.in-Err.fault c.into.result c.in_ok-way.ensures.judged (g.D.Device.lawful c.read_page.new.device) (subst₂ (λ s h. PageFound x.device s h (Err c.in-Err.fault) n) place c.next_head-head.ensures e.did) c.into.ensures c.restart.ensures.did;
       list = refl;
       kept = ap g.D.Device.lender c.restart.ensures.kept ∙ e.kept;
     }

@@ -1,17 +1,17 @@
-use Rattle.std.proofs.Common.{Ok, Err, vec_items, refl, ap, ◌∙◌, subst, rules}
-use Rattle.protocol.specs.Worlds.{rules_of, page_head}
+use Rattle.std.proofs.Common.{Err, refl, ap, ◌∙◌, rules}
+use Rattle.protocol.specs.Worlds.{rules_of}
 use Rattle.protocol.specs.Steps.{world_of, write_reasons, write_ops}
-use Rattle.journal_io.specs.Running.{Running, page_writes}
+use Rattle.journal_io.specs.Running.{Running}
 use Rattle.exchange.specs.Views.{view}
 use Rattle.exchange.proofs.Cutting.{cut_off}
 use Rattle.exchange.proofs.Refusing.{write_refused}
 use Rattle.exchange.proofs.state.Exchange.write.Goals as goal
 
-pub returns-in-err-way : goal.returns-in-err-way
-returns-in-err-way g c =
+pub returns-in_err-way : goal.returns-in_err-way
+returns-in_err-way g c =
     let x = view g.M.Market g.D.Device c.args.self.now in
     record {
-      did = write_refused (world_of (rules_of g.M.Market) x) x _ c.from-residual.result c.in-err-way.ensures.judged c.from-residual.ensures.1;
+      did = write_refused (world_of (rules_of g.M.Market) x) x _ c.from_residual.result c.in_err-way.ensures.judged c.from_residual.ensures.1;
       kept = refl;
     }
 
@@ -21,10 +21,10 @@ returns-in-Err g c =
     let w = world_of (rules_of g.M.Market) x in
     let m = g.D.Device.meaning in
     let d = c.args.self.now.device in
-    let n = m c.put-page.new.device in
+    let n = m c.put_page.new.device in
     let e = c.in-Err.ensures in
     let ran : Running (m d) (write_ops w x) (Err c.in-Err.fault) n = search rules in
     record {
-      did = cut_off w (write_reasons w x) x (view g.M.Market g.D.Device c.restart.new.self) (m d) n (write_ops w x) c.in-Err.fault c.into.result c.in-ok-way.ensures.judged (g.D.Device.lawful c.put-page.new.device) ran c.into.ensures c.restart.ensures.did;
+      did = cut_off w (write_reasons w x) x (view g.M.Market g.D.Device c.restart.new.self) (m d) n (write_ops w x) c.in-Err.fault c.into.result c.in_ok-way.ensures.judged (g.D.Device.lawful c.put_page.new.device) ran c.into.ensures c.restart.ensures.did;
       kept = ap g.D.Device.lender c.restart.ensures.kept ∙ e.kept;
     }

@@ -9,12 +9,12 @@ loop-i-init c = record { finds = refl; leaves = refl }
 pub loop-i-preserved : goal.loop-i-preserved
 loop-i-preserved c =
     let h : c.loop-i.i < length (rows c.args.self.now) = search rules in
-    sought_more c.loop-i.invariant _ h (simp c.deref-row-items.ensures.value at (sym c.if-is-order.ensures))
+    sought_more c.loop-i.invariant _ h (simp c.deref-row-items.ensures.value at (sym c.if-is_order.ensures))
 
-pub returns-then-is-order : goal.returns-then-is-order
-returns-then-is-order c =
+pub returns-then-is_order : goal.returns-then-is_order
+returns-then-is_order c =
     let h : c.loop-i.i < length (rows c.args.self.now) = search rules in
-    sought_here c.loop-i.invariant _ h (simp c.deref-row-items.ensures.value at (sym c.if-is-order.ensures))
+    sought_here c.loop-i.invariant _ h (simp c.deref-row-items.ensures.value at (sym c.if-is_order.ensures))
 
 pub returns : goal.returns
 returns c =

@@ -6,7 +6,7 @@ use Rattle.market.proofs.tables.OrderTable.refill.Goals as goal
 pub loop-order-preserved : goal.loop-order-preserved
 loop-order-preserved c =
     let i = c.loop-order.invariant in
-    let p = c.push-reserved.ensures in
+    let p = c.push_reserved.ensures in
     (pushed_more c.args.orders.now c.loop-order.order-index blank _ _ i.0 c.loop-order-test.true p.items, omega (arith, p.len, i.1), p.capacity ∙ i.2)
 
 pub returns : goal.returns

@@ -3,13 +3,13 @@ use Rattle.records.specs.Buffers.{written}
 use Rattle.records.proofs.Pieces.{shorter}
 use Rattle.records.proofs.buffers.RecordBuffer.put.Goals as goal
 
-pub put-at-requires : goal.put-at-requires
+pub put_at-requires : goal.put_at-requires
 unfolding written
-put-at-requires c = search rules
+put_at-requires c = search rules
 
-pub invariant-of-self : goal.invariant-of-self
+pub invariant_of-self : goal.invariant_of-self
 unfolding written
-invariant-of-self c = let s = c.args.self.now in let z = shorter 512 s.len (length c.args.piece.now) s.bytes s.blank.1 in search rules
+invariant_of-self c = let s = c.args.self.now in let z = shorter 512 s.len (length c.args.piece.now) s.bytes s.blank.1 in search rules
 
 pub returns : goal.returns
 unfolding written

@@ -5,4 +5,4 @@ use Rattle.records.proofs.headers.Header.decode.Goals as goal
 pub returns : goal.returns
 returns c =
     let bs = c.args.sector.now in
-    record { value = decodes_header bs c.header_in_bytes.result (bytes_below bs c.fits-sector) c.told-sector c.header_in_bytes.ensures; zeros = zeros_no_header }
+    record { value = decodes_header bs c.header_in.result (bytes_below bs c.fits-sector) c.told-sector c.header_in.ensures; zeros = zeros_no_header }

@@ -2,18 +2,18 @@ use Rattle.std.proofs.Common.{rules}
 use Rattle.records.specs.Headers.{decoded_header}
 use Rattle.records.proofs.headers.Header.header_in.Goals as goal
 
-pub returns-then-not-is-laid-out : goal.returns-then-not-is-laid-out
+pub returns-then-not-is_laid_out : goal.returns-then-not-is_laid_out
 unfolding decoded_header
-returns-then-not-is-laid-out c = search rules
+returns-then-not-is_laid_out c = search rules
 
-pub returns-then-not-all-zero-from : goal.returns-then-not-all-zero-from
+pub returns-then-not-all_zero_from : goal.returns-then-not-all_zero_from
 unfolding decoded_header
-returns-then-not-all-zero-from c = search rules
+returns-then-not-all_zero_from c = search rules
 
-pub returns-then-has-good-counts : goal.returns-then-has-good-counts
+pub returns-then-has_good_counts : goal.returns-then-has_good_counts
 unfolding decoded_header
-returns-then-has-good-counts c = search rules
+returns-then-has_good_counts c = search rules
 
-pub returns-else-has-good-counts : goal.returns-else-has-good-counts
+pub returns-else-has_good_counts : goal.returns-else-has_good_counts
 unfolding decoded_header
-returns-else-has-good-counts c = search rules
+returns-else-has_good_counts c = search rules

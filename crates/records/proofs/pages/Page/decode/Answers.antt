@@ -6,4 +6,4 @@ use Rattle.records.proofs.pages.Page.decode.Goals as goal
 pub returns : goal.returns
 returns c =
     let bs = c.args.sector.now in
-    decodes_page bs (said c.page-in.result) (bytes_below bs c.fits-sector) c.told-sector c.page-in.ensures
+    decodes_page bs (said c.page_in.result) (bytes_below bs c.fits-sector) c.told-sector c.page_in.ensures

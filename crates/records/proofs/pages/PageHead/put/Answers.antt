@@ -5,4 +5,4 @@ use Rattle.records.proofs.pages.PageHead.put.Goals as goal
 
 pub returns : goal.returns
 unfolding head_bytes
-returns c = record { bytes = rw (← c.total-size.ensures.value) (search (rules, then) depth 9); len = search rules }
+returns c = record { bytes = rw (← c.total_size.ensures.value) (search (rules, then) depth 9); len = search rules }

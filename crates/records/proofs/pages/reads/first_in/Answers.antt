@@ -14,5 +14,5 @@ pub returns : goal.returns
 unfolding first_in_bytes
 returns c =
     let bs = c.args.bytes.now in
-    let e : c.command-in.result ≡ first_in_bytes c.args.bytes.now = search rules in
-    record { value = e; bound = first_bound c.command-in.result bs (bytes_typed bs c.type-inv.bytes) e }
+    let e : c.command_in.result ≡ first_in_bytes c.args.bytes.now = search rules in
+    record { value = e; bound = first_bound c.command_in.result bs (bytes_typed bs c.type_inv.bytes) e }

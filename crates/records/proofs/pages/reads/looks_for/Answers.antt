@@ -10,7 +10,7 @@ returns c =
     let bs = c.args.sector.now in
     let d = looks_decides c.args.house c.args.number bs (bytes_below bs c.fits-sector) c.told-sector (search rules) (search rules) in
     record {
-      numbers = c.is-page-of.ensures;
-      bytes = subst (λ (r : Bool). Looks c.args.house c.args.number bs r) (sym c.is-page-of.ensures) d;
+      numbers = c.is_page_of.ensures;
+      bytes = subst (λ (r : Bool). Looks c.args.house c.args.number bs r) (sym c.is_page_of.ensures) d;
       zeros = zeros_look;
     }

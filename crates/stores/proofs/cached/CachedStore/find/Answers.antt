@@ -1,6 +1,6 @@
-use Rattle.std.proofs.Common.{◌≡◌, ℕ, List, vec_items, sym, refl, ap, ◌∙◌, arith, rules}
+use Rattle.std.proofs.Common.{vec_items, sym, refl, ap, ◌∙◌, arith, rules}
 use Rattle.device.specs.Meaning.{Reading}
-use Rattle.image.specs.Image.{readable, filled, seen}
+use Rattle.image.specs.Image.{readable, filled}
 use Rattle.image.proofs.Meanings.{seen_none, seen_some, seen_beyond}
 use Rattle.stores.proofs.cached.CachedStore.find.Goals as goal
 

@@ -7,9 +7,9 @@ pub bounds-self-self : goal.bounds-self-self
 unfolding held
 bounds-self-self c = search rules
 
-pub invariant-of-self : goal.invariant-of-self
+pub invariant_of-self : goal.invariant_of-self
 unfolding held
-invariant-of-self c = search rules
+invariant_of-self c = search rules
 
 pub returns : goal.returns
 unfolding held

@@ -2,8 +2,8 @@
 use Rattle.std.specs.Prelude.{◌⊎◌}
 use Rattle.std.proofs.Common.{inl, inr}
 use Rattle.device.specs.Meaning.{Meaning, Lawful}
-use Rattle.either.specs.declared.Either.{Either}
-use Rattle.either.specs.declared.Either.TheVariants.{First, Second}
+use Rattle.either_device.specs.declared.Either.{Either}
+use Rattle.either_device.specs.declared.Either.TheVariants.{First, Second}
 
 -- what the device that is held means
 abbrev pub meant_by : {A B : Type 0} → (A → Meaning) → (B → Meaning) → Either A B → Meaning

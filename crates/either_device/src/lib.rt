@@ -2,8 +2,10 @@
 //!
 //! Proved, for any two devices: `Either` keeps the meaning of the device that it holds, and stands on the memory that it
 //! stands on (specs/Eithers). Nothing is trusted but the toolchain.
+#![tactic(auto)]
+
 ghost use Rattle.std.specs.Prelude.{◌⊎◌};
-ghost use Rattle.either.specs.Eithers.{lent_by, meant_by, meant_lawful};
+ghost use Rattle.either_device.specs.Eithers.{lent_by, meant_by, meant_lawful};
 
 use device::{Device, DeviceFault, Sector};
 
