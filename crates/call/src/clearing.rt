@@ -1,6 +1,6 @@
 //! The price that a cross takes.
 ghost use Rattle.std.specs.Prelude.{◌≡◌};
-ghost use Rattle.market.specs.Orders.{accepts as side-accepts};
+ghost use Rattle.market.specs.Orders.{accepts as side_accepts};
 ghost use Rattle.call.specs.Clearing.{offered, at_price, preferred, best, clearing, Summable, FewLots};
 
 use market::orders::Order;
@@ -16,7 +16,7 @@ pub(crate) struct Clearing {
 
 // Whether an order of a side, at its own price, trades at this one.
 fn accepts(side: Side, own: Price, price: Price) -> bool
-    ensures { result ≡ side-accepts side own.0 price.0 }
+    ensures { result ≡ side_accepts side own.0 price.0 }
 {
     match side {
         Side::Buy => own.0 >= price.0,

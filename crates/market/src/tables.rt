@@ -4,7 +4,7 @@ ghost use Rattle.std.specs.Borrow.{sem, follows};
 ghost use Rattle.std.specs.Vec.{with_item};
 ghost use Rattle.std.specs.List.{insert};
 ghost use Rattle.market.specs.contracts.orders.Order.{the_row as order_row};
-ghost use Rattle.market.specs.contracts.tables.OrderTable.{the_row as table-row};
+ghost use Rattle.market.specs.contracts.tables.OrderTable.{the_row as table_row};
 ghost use Rattle.market.specs.Lists.{pairwise, found, without, placed, FoundAt};
 ghost use Rattle.market.specs.Orders.{before, is_of, rested, reduced, Has, front};
 ghost use Rattle.market.specs.Means.{rows};
@@ -87,7 +87,7 @@ impl OrderTable {
     // Lends one row: the table ends with what is written to it there, and nothing else changed.
     fn row(&mut self, i: usize) -> &mut Order
         requires { i < vec_len self.old.rows }
-        ensures* follows { sem 𝓛 (follows table-row order_row self.entry.ghost_name result.ghost_name (λ w. record { rows = with_item self.old.rows i w })) }
+        ensures* follows { sem 𝓛 (follows table_row order_row self.entry.ghost_name result.ghost_name (λ w. record { rows = with_item self.old.rows i w })) }
         ensures value { result.now ≡ slice_index_or (rows self.old) i result.now }
     {
         &mut self.rows[i]

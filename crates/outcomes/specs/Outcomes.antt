@@ -1,5 +1,5 @@
 -- What is seen of a device after a cut. Assumes nothing.
-use Rattle.std.specs.Prelude.{ℕ, ◌+◌, ◌-◌, ◌^◌, ◌≤◌, min, Bool, true, false, cond, not, List, ◌≡◌, ◌⊎◌, ltb, get_or}
+use Rattle.std.specs.Prelude.{ℕ, ◌+◌, ◌-◌, ◌^◌, ◌≤◌, min, Bool, true, false, cond, not, List, ◌≡◌, ◌⊎◌, nat_lt, slice_index_or}
 use Rattle.device.specs.Meaning.{Meaning, bytes, torn}
 use Rattle.device.specs.Calls.{WasCut, Woken, Kept}
 use Rattle.device.specs.Runs.{Ran, CutIn}
@@ -11,7 +11,7 @@ use Rattle.outcomes.specs.declared.seen.Tally.{Tally}
 
 -- the first byte of a sector, or that it is torn; unread where the read was refused or cut
 abbrev pub SawSector : Meaning → ℕ → Seen → Meaning → Type 0
-SawSector m s (Byte b) n = (x : List ℕ) × (m.reads s ≡ bytes x) × (b ≡ get_or x 0 0) × (n ≡ m)
+SawSector m s (Byte b) n = (x : List ℕ) × (m.reads s ≡ bytes x) × (b ≡ slice_index_or x 0 0) × (n ≡ m)
 SawSector m s Torn n = (m.reads s ≡ torn) × (n ≡ m)
 SawSector m s Unread n = ((m.size ≤ s) × (n ≡ m)) ⊎ WasCut m (Kept m) n
 
@@ -30,12 +30,12 @@ pub record Observed (m : Meaning) (os : List Operation) (o : Outcome) (n : Meani
 
 -- old contents begin with a byte below 97 (a capital letter), new ones do not
 abbrev pub seen_is_new : Seen → Bool
-seen_is_new (Byte b) = not (ltb b 97)
+seen_is_new (Byte b) = not (nat_lt b 97)
 seen_is_new Torn = false
 seen_is_new Unread = false
 
 abbrev pub seen_is_old : Seen → Bool
-seen_is_old (Byte b) = ltb b 97
+seen_is_old (Byte b) = nat_lt b 97
 seen_is_old Torn = false
 seen_is_old Unread = false
 
