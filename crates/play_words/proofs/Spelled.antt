@@ -1,15 +1,32 @@
 -- Words by their places.
-use Rattle.std.proofs.Common.{◌≡◌, ℕ, ◌-◌, ◌<◌, ◌≤◌, List, [], ◌∷◌, map, length, get_or, take, drop, IfOk, Ok, Err, codes, Result, sym, refl, ap, ◌∙◌, inl, inr, arith, Bor}
+use Rattle.std.proofs.Common.{◌≡◌, ℕ, ◌-◌, ◌<◌, ◌≤◌, List, [], ◌∷◌, ◌++◌, map, length, get_or, take, drop, IfOk, Ok, Err, codes, Result, sym, refl, ap, ◌∙◌, subst, append_assoc, append-nil, inl, inr, arith, Bor}
 use Rattle.std.proofs.lemmas.List.{take_all}
 use Rattle.words.specs.Spellings.{Writes}
 use Rattle.play_words.specs.declared.faults.PlayFault.{PlayFault}
-use Rattle.play_words.specs.Spellings.{Stages, Lends}
+use Rattle.play_words.specs.Spellings.{Stages, Lends, SpellsByte, SpellsBytes}
 use Rattle.play_words.specs.Scripts.{SaysHouse, SaysMarket, SaysPile, SaysSetup, Took}
 use Rattle.play_words.specs.declared.script.Reader.{Reader}
 
 pub lends_none : (xs : List (Bor (List ℕ))) → length xs < 1 → Lends (map (λ x. x.now) xs) 1024
 lends_none [] h = refl
 lends_none (x ∷ xs) h = absurd (omega arith)
+
+-- one byte more
+pub one_byte : (text left later bs cs : List ℕ) (x y b : ℕ) → ((ds : List ℕ) → SpellsBytes left ds → SpellsBytes text (bs ++ ds)) →
+    left ≡ x ∷ (y ∷ later) → SpellsByte x y b → cs ≡ bs ++ (b ∷ []) → (ds : List ℕ) → SpellsBytes later ds → SpellsBytes text (cs ++ ds)
+one_byte text left later bs cs x y b inv e s p ds h =
+    subst (SpellsBytes text) (sym (append_assoc bs (b ∷ []) ds) ∙ ap (λ (is : List ℕ). is ++ ds) (sym p)) (inv (b ∷ ds) (subst (λ (is : List ℕ). SpellsBytes is (b ∷ ds)) (sym e) (s, h)))
+
+-- and none is left
+pub all_bytes : (text left bs : List ℕ) → ((ds : List ℕ) → SpellsBytes left ds → SpellsBytes text (bs ++ ds)) → length left ≡ 0 → SpellsBytes text bs
+all_bytes text [] bs inv n = subst (SpellsBytes text) (append-nil bs) (inv [] tt)
+all_bytes text (x ∷ left) bs inv n = absurd (omega arith)
+
+-- two are the first two and the rest
+pub two_and_more : (xs : List ℕ) → 2 ≤ length xs → xs ≡ get_or xs 0 0 ∷ (get_or xs 1 0 ∷ take (length xs - 2) (drop 2 xs))
+two_and_more [] h = absurd (omega arith)
+two_and_more (x ∷ []) h = absurd (omega arith)
+two_and_more (x ∷ (y ∷ xs)) h = ap (λ (is : List ℕ). x ∷ (y ∷ is)) (sym (take_all _ xs (omega arith)))
 
 module _ (d : Bor (List ℕ)) where
   -- the word at a place
@@ -47,9 +64,9 @@ module _ (d : Bor (List ℕ)) where
   lends_one (x ∷ (y ∷ ys)) r e h = absurd (omega arith)
 
   pub hexed : (xs : List (Bor (List ℕ))) {V : Type 0} (items : V → List ℕ) (r : Result V PlayFault) → length xs ≡ 2 → word xs 0 ≡ codes "hex" →
-      IfOk r (λ v. Stages (map (λ x. x.now) xs) (items v))
-  hexed xs items (Ok v) n e = inr (word xs 1, two_of xs _ n e)
-  hexed xs items (Err f) n e = tt
+      IfOk r (λ v. SpellsBytes (word xs 1) (items v)) → IfOk r (λ v. Stages (map (λ x. x.now) xs) (items v))
+  hexed xs items (Ok v) n e h = inr (word xs 1, two_of xs _ n e, h)
+  hexed xs items (Err f) n e h = tt
 
   -- an answer to a line of the set-up is one to all its words
   pub took_house : (xs : List (Bor (List ℕ))) {V : Type 0} (r : Result V PlayFault) (x y : Reader) → length xs ≡ 2 → word xs 0 ≡ codes "house" →

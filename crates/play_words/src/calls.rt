@@ -1,7 +1,7 @@
 //! Calls from words.
-ghost use Rattle.std.specs.Prelude.{map, IfOk};
+ghost use Rattle.std.specs.Prelude.{◌<◌, map, IfOk};
 ghost use Rattle.words.specs.Spellings.{Writes};
-ghost use Rattle.play_words.specs.Spellings.{Stages, Lends, SpellsCall};
+ghost use Rattle.play_words.specs.Spellings.{Stages, Lends, SpellsCall, SpellsDigit, SpellsByte, SpellsBytes};
 
 use crate::faults::PlayFault;
 use runner::script::Call;
@@ -20,7 +20,10 @@ fn number_of(text: &str, what: &'static str) -> Result<usize, PlayFault>
     }
 }
 
-fn digit_of(byte: u8) -> Result<u8, PlayFault> {
+fn digit_of(byte: u8) -> Result<u8, PlayFault>
+    ensures spells { IfOk result (λ n. SpellsDigit byte n) }
+    ensures below { IfOk result (λ n. n < 16) }
+{
     match byte {
         b'0'..=b'9' => Ok(byte - b'0'),
         b'a'..=b'f' => Ok(byte - b'a' + 10),
@@ -29,23 +32,29 @@ fn digit_of(byte: u8) -> Result<u8, PlayFault> {
     }
 }
 
-fn byte_of(digits: &[u8]) -> Result<u8, PlayFault> {
-    match digits {
-        [high, low] => {
-            let (high, low) = (digit_of(*high)?, digit_of(*low)?);
-            Ok(high.wrapping_mul(16) | low)
-        }
-        _ => Err(PlayFault::Hex),
-    }
+fn byte_of(high: u8, low: u8) -> Result<u8, PlayFault>
+    ensures { IfOk result (λ b. SpellsByte high low b) }
+{
+    let high = digit_of(high)?;
+    let low = digit_of(low)?;
+    Ok(16 * high + low)
 }
 
 // The bytes that the hex digits are, two a byte.
-fn bytes_of(heap: Global, text: &str) -> Result<Vec<u8>, PlayFault> {
+fn bytes_of(heap: Global, text: &str) -> Result<Vec<u8>, PlayFault>
+    ensures { IfOk result (λ v. SpellsBytes text.now v.items) }
+{
     let mut bytes = Vec::new(heap);
-    for digits in text.as_bytes().chunks(2) {
-        bytes.push(byte_of(digits)?)?;
+    let mut left = text.as_bytes();
+    while let [high, low, later @ ..] = left {
+        bytes.push(byte_of(*high, *low)?)?;
+        left = later;
     }
-    Ok(bytes)
+    if left.is_empty() {
+        Ok(bytes)
+    } else {
+        Err(PlayFault::Hex)
+    }
 }
 
 // The bytes to stage: those of a command's record, or any.

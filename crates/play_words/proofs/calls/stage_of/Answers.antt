@@ -5,4 +5,4 @@ use Rattle.play_words.proofs.calls.stage_of.Goals as goal
 pub returns-in-hex : goal.returns-in-hex
 returns-in-hex c =
     let n : length c.args.words.now ≡ 2 = search rules in
-    hexed _ _ vec_items c.bytes_of.result n c.in-hex.is-hex
+    hexed _ _ vec_items c.bytes_of.result n c.in-hex.is-hex c.bytes_of.ensures
