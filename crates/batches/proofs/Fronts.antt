@@ -6,7 +6,7 @@ use Rattle.records.specs.Notices.{counted}
 use Rattle.records.specs.declared.commands.Command.{Command}
 use Rattle.records.specs.declared.notices.Notice.{Notice}
 use Rattle.market.specs.Lists.{over}
-use Rattle.batches.specs.Given.{after_all, given_by, counted_front}
+use Rattle.batches.specs.Given.{after_all, given_by}
 
 module _ {S : Type 0} (step : S → Command → S × List Notice) where
   pub after_more : (s : S) (xs : List Command) (x : Command) → after_all step s (xs ++ x ∷ []) ≡ (step (after_all step s xs) x).0
@@ -29,13 +29,6 @@ front_more before old new out part at e le eo ep =
 pub length_counted : (k : ℕ) (vs : List Notice) → length (counted k vs) ≡ length vs
 length_counted k [] = refl
 length_counted k (v ∷ vs) = omega (arith, length_counted (k + 1) vs)
-
--- the front of what was written over a list, counted
-pub counted_over : (k n : ℕ) (xs ys vs : List Notice) → n ≡ length vs → ys ≡ over xs vs → counted_front k n ys ≡ over xs (counted k vs)
-counted_over k n xs ys vs e o =
-    let front : take n ys ≡ vs = ap (take n) o ∙ take_at vs _ n (sym e) in
-    let back : drop n ys ≡ drop (length (counted k vs)) xs = ap (drop n) o ∙ drop_at vs _ n (sym e) ∙ ap (λ m. drop m xs) (sym (length_counted k vs)) in
-    (λ i. counted k (front i) ++ back i)
 
 -- where the loop over a page's commands stands before command i
 abbrev pub Stands : {S : Type 0} (step : S → Command → S × List Notice) (s : S) (xs : List Command) (before : List Notice) (i at : ℕ) (list : List Notice) (now : S) → Type 0

@@ -1,6 +1,5 @@
 -- A row of commands in a market.
-use Rattle.std.specs.Prelude.{ℕ, List, [], ◌∷◌, ◌++◌, take, drop}
-use Rattle.records.specs.Notices.{counted}
+use Rattle.std.specs.Prelude.{ℕ, List, [], ◌∷◌, ◌++◌}
 use Rattle.records.specs.declared.commands.Command.{Command}
 use Rattle.records.specs.declared.notices.Notice.{Notice}
 
@@ -13,7 +12,3 @@ after_all step s (c ∷ cs) = after_all step (step s c).0 cs
 abbrev pub given_by : {S : Type 0} → (S → Command → S × List Notice) → S → List Command → List Notice
 given_by step s [] = []
 given_by step s (c ∷ cs) = (step s c).1 ++ given_by step (step s c).0 cs
-
--- the first n notices of a list, counted on from k
-abbrev pub counted_front : ℕ → ℕ → List Notice → List Notice
-counted_front k n xs = counted k (take n xs) ++ drop n xs

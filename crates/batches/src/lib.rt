@@ -7,15 +7,16 @@
 ghost use Rattle.std.specs.Prelude.{◌≡◌, ◌+◌, ◌*◌, ◌^◌, ◌<◌, ◌≤◌, length};
 ghost use Rattle.market.specs.Lists.{over};
 ghost use Rattle.records.specs.Notices.{counted};
-ghost use Rattle.batches.specs.Given.{after_all, given_by, counted_front};
+ghost use Rattle.batches.specs.Given.{after_all, given_by};
 
 use market::interface::Market;
 use records::commands::Command;
-use records::counting::count_notices;
+use records::counting::count_front;
 use records::notices::Notice;
 use records::numbers::NoticeNumber;
 
 // One command: its notices come over the list from `at` on; how many they are.
+// The list is lent, and so is the market: nothing allocates on the way of a call.
 fn apply_one<M: Market>(market: &mut M, command: &Command, list: &mut [Notice]) -> usize
     requires { 64 ≤ length list.old }
     ensures state { M.means market.new ≡ (M.step (M.means market.old) command.now).0 }
@@ -30,6 +31,7 @@ fn apply_one<M: Market>(market: &mut M, command: &Command, list: &mut [Notice]) 
 }
 
 // All commands, their notices not yet counted.
+// The list is lent, and so is the market: nothing allocates on the way of a call.
 fn apply_all<M: Market>(market: &mut M, commands: &[Command], list: &mut [Notice]) -> usize
     requires { 64 * length commands.now ≤ length list.old }
     ensures state { M.means market.new ≡ after_all M.step (M.means market.old) commands.now }
@@ -44,16 +46,8 @@ fn apply_all<M: Market>(market: &mut M, commands: &[Command], list: &mut [Notice
     at
 }
 
-// Counts the first n notices of a list.
-fn count_front(list: &mut [Notice], n: usize, before: NoticeNumber)
-    requires within { n ≤ length list.old }
-    requires fits { before.0 + n < 2 ^ 64 }
-    ensures { list.new ≡ counted_front before.0 n list.old }
-{
-    count_notices(&mut list[0..n], before);
-}
-
 /// Applies the commands, and counts their notices on from those before.
+// The list is lent, and so is the market: nothing allocates on the way of a call.
 pub fn apply_page<M: Market>(
     market: &mut M,
     commands: &[Command],

@@ -1,5 +1,5 @@
 -- The state that a body is of.
-use Rattle.std.proofs.Common.{◌≡◌, ℕ, zero, suc, ◌+◌, ◌-◌, ◌*◌, ◌≤◌, Bool, true, false, cond, ◌&&◌, eqb, leb, List, [], ◌∷◌, ◌++◌, length, take, replicate, Some, None, Option, sym, refl, ap, ◌∙◌, arith, length-append, rules, eq-eqb, eqb-true, le-leb}
+use Rattle.std.proofs.Common.{◌≡◌, ℕ, zero, suc, ◌+◌, ◌-◌, ◌*◌, Bool, true, false, cond, ◌&&◌, eqb, leb, List, [], ◌∷◌, ◌++◌, length, replicate, Some, None, Option, sym, refl, ap, ◌∙◌, arith, length-append, rules, eq-eqb, eqb-true, le-leb}
 use Rattle.std.proofs.lemmas.List.{length-replicate}
 use Rattle.records.specs.LittleEndian.{le, field, Bytes}
 use Rattle.records.proofs.LittleEndianLaws.{length_le, bytes_le}
@@ -10,25 +10,6 @@ use Rattle.body.specs.Layout.{order_bytes, orders_bytes, orders_at, content, bod
 use Rattle.body.specs.Loads.{spelt, reads, if_passes, loads}
 use Rattle.body.proofs.Puts.{length_orders}
 use Rattle.body.proofs.Trips.{last_back, bought_back, sold_back, buys_back, sells_back}
-
--- what the code reads and writes again is what the body's fields spell
-module _ (b : List ℕ) (last nb ns : ℕ) (bs ss : List Order) (again : List ℕ) (q : Bool)
-    (hl : last ≡ field 0 8 b) (hb : nb ≡ field 8 2 b) (hs : ns ≡ field 10 2 b) (fb : nb ≤ 32) (fs : ns ≤ 32)
-    (tb : take nb bs ≡ orders_at b 12 nb) (ts : take ns ss ≡ orders_at b (12 + 20 * nb) ns)
-    (ha : again ≡ body (record { last = last; buys = take (nb - 0) bs; sells = take (ns - 0) ss })) (hq : q ≡ equal again b) where
-  pub reading : cond q (Some (record { last = last; buys = take nb bs; sells = take ns ss })) None ≡ reads b
-  reading =
-      let l1 : leb (field 8 2 b) 32 ≡ true = le-leb _ 32 (omega (arith, hb)) in
-      let l2 : leb (field 10 2 b) 32 ≡ true = le-leb _ 32 (omega (arith, hs)) in
-      let e1 : take nb bs ≡ orders_at b 12 (field 8 2 b) = tb ∙ ap (orders_at b 12) hb in
-      let e2 : take ns ss ≡ orders_at b (12 + 20 * field 8 2 b) (field 10 2 b) = ts ∙ ap (λ k. orders_at b (12 + 20 * k) ns) hb ∙ ap (orders_at b (12 + 20 * field 8 2 b)) hs in
-      let n0 : nb - 0 ≡ nb = omega arith in
-      let s0 : ns - 0 ≡ ns = omega arith in
-      let r : ◌≡◌ {A = Resting} (record { last = last; buys = take nb bs; sells = take ns ss }) (spelt b) =
-      ap (λ k. record { last = k; buys = take nb bs; sells = take ns ss }) hl ∙ ap (λ k. record { last = field 0 8 b; buys = k; sells = take ns ss }) e1 ∙ ap (λ k. record { last = field 0 8 b; buys = orders_at b 12 (field 8 2 b); sells = k }) e2 in
-      let z : q ≡ equal (body (spelt b)) b =
-      hq ∙ ap (λ a. equal a b) (ha ∙ ap (λ k. body (record { last = last; buys = take k bs; sells = take (ns - 0) ss })) n0 ∙ ap (λ k. body (record { last = last; buys = take nb bs; sells = take k ss })) s0 ∙ ap body r) in
-      ap (λ t. cond t (Some (record { last = last; buys = take nb bs; sells = take ns ss })) None) z ∙ ap (λ k. cond (equal (body (spelt b)) b) (Some k) None) r ∙ sym (simp (l1, l2))
 
 equal_self : (xs : List ℕ) → equal xs xs ≡ true
 equal_self [] = refl
@@ -94,6 +75,9 @@ body_length h f =
     let ss = length_orders h.sells in
     let k : length (content h) ≡ 12 + 20 * length h.buys + 20 * length h.sells = simp (length-append, a, c, d, bs, ss) (omega arith) in
     simp (length-append, length-replicate) (omega (arith, k, f.buys.few, f.sells.few))
+
+pub sized : (h : Resting) → sound h ≡ true → length (body h) ≡ 1536
+sized h v = body_length h (sound_fact h v)
 
 -- a body is bytes
 bytes_append : (xs ys : List ℕ) → Bytes xs → Bytes ys → Bytes (xs ++ ys)

@@ -1,20 +1,9 @@
 -- A state as the bytes of its body.
-use Rattle.std.specs.Prelude.{◌≡◌, ℕ, zero, suc, ◌+◌, ◌-◌, Bool, true, false, ◌&&◌, List, [], ◌∷◌, ◌++◌, length, take, drop, replicate, ◌==◌}
+use Rattle.std.specs.Prelude.{◌≡◌, ℕ, zero, suc, ◌+◌, ◌-◌, Bool, List, [], ◌∷◌, ◌++◌, length, take, drop, replicate, nat_eq}
+use Rattle.std.specs.Cmp.Lexicographic.{pointwise}
 use Rattle.records.specs.LittleEndian.{le, field}
 use Rattle.market.specs.declared.orders.Order.{Order}
 use Rattle.market.specs.Resting.{Resting}
-use Rattle.body.specs.declared.writing.OrderFields.{OrderFields}
-
--- ys in xs from the place i on
-abbrev pub list_put_at : {X : Type 0} → List X → ℕ → List X → List X
-list_put_at xs i ys = take i xs ++ (ys ++ drop (i + length ys) xs)
-
--- zs is xs with ys from the place i on
-pub record Put {X : Type 0} (xs : List X) (i : ℕ) (ys zs : List X) : Type 0 where
-  pub so : zs ≡ list_put_at xs i ys
-
-abbrev pub order_fields : Order → OrderFields
-order_fields o = record { number = o.number.0; member = o.member.0; price = o.price.0; lots = o.lots.0 }
 
 -- an order: its number in 8 bytes, its member, price and lots in 4 each
 unfoldable pub order_bytes : Order → List ℕ
@@ -40,8 +29,6 @@ abbrev pub orders_at : List ℕ → ℕ → ℕ → List Order
 orders_at b i zero = []
 orders_at b i (suc n) = order_at b i ∷ orders_at b (i + 20) n
 
+-- the same bytes
 abbrev pub equal : List ℕ → List ℕ → Bool
-equal [] [] = true
-equal [] (y ∷ ys) = false
-equal (x ∷ xs) [] = false
-equal (x ∷ xs) (y ∷ ys) = x == y && equal xs ys
+equal xs ys = pointwise nat_eq xs ys

@@ -1,5 +1,5 @@
 -- The state that a body is of.
-use Rattle.std.specs.Prelude.{ℕ, ◌+◌, ◌*◌, Bool, cond, ◌&&◌, List, take, Some, None, Option, nat_le}
+use Rattle.std.specs.Prelude.{ℕ, ◌+◌, ◌*◌, Bool, cond, ◌&&◌, List, Some, None, Option, nat_le}
 use Rattle.records.specs.LittleEndian.{field}
 use Rattle.market.specs.Resting.{Resting}
 use Rattle.body.specs.declared.image.Image.{Image}
@@ -7,7 +7,7 @@ use Rattle.body.specs.Layout.{orders_at, body, equal}
 
 -- what an image holds
 abbrev pub held : Image → Resting
-held m = record { last = m.last.0; buys = take m.bought m.buys; sells = take m.sold m.sells }
+held m = record { last = m.last.0; buys = m.buys.items; sells = m.sells.items }
 
 -- the state that the fields of a body spell, good or not
 abbrev pub spelt : List ℕ → Resting

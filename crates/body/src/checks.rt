@@ -1,113 +1,98 @@
 //! What is asked of the orders of a state.
 ghost use Rattle.std.specs.Prelude.{◌≡◌};
 ghost use Rattle.market.specs.Lists.{all, pairwise, across};
-ghost use Rattle.market.specs.Orders.{kept};
+ghost use Rattle.market.specs.Orders.{before, differ, below, kept};
 ghost use Rattle.market.specs.Resting.{side_sound, sound};
-ghost use Rattle.body.specs.Checks.{related};
 
-use market::orders::{Buys, Order, Sells};
-use rank::Rank;
+use market::orders::Order;
+use rank::Ranking;
 use records::commands::Side;
 use records::numbers::{CommandNumber, LAST_NUMBER};
 
-/// What two orders can have to do with each other.
-#[derive(Clone, Copy)]
-pub(crate) enum Relation {
-    /// The first stands before the second, on this side.
-    Before(Side),
-    /// They have not one number.
-    Differ,
-    /// The first has the lower price.
-    Below,
+fn leads_all(side: Side, x: &Order, ys: &[Order]) -> bool
+    ensures { result ≡ all (before side x.now) ys.now }
+{
+    ys.iter().all(|y| side.stands_before(x, y))
 }
 
-fn stands_before<B, T: Rank<B>>(x: &T, y: &T) -> bool
-    ensures { result ≡ T.earlier (T.key x.now) (T.key y.now) }
+// Whether each order stands before each that follows it. (`is_sorted_by` with a closure, in place of the loop, left open
+// that the closure answers as it does.)
+fn are_ranked(side: Side, xs: &[Order]) -> bool
+    ensures { result ≡ pairwise (before side) xs.now }
 {
-    x.stands_before(y)
-}
-
-fn is_related(relation: Relation, x: &Order, y: &Order) -> bool
-    ensures { result ≡ related relation x.now y.now }
-{
-    match relation {
-        Relation::Before(side) => match side {
-            Side::Buy => stands_before::<Buys, Order>(x, y),
-            Side::Sell => stands_before::<Sells, Order>(x, y),
-        },
-        Relation::Differ => x.number.0 != y.number.0,
-        Relation::Below => x.price.0 < y.price.0,
-    }
-}
-
-// Whether an order has this to do with each of the others.
-fn relates_to_all(relation: Relation, x: &Order, ys: &[Order]) -> bool
-    ensures { result ≡ all (related relation x.now) ys.now }
-{
-    for y in ys {
-        if !is_related(relation, x, y) {
+    let mut left = xs;
+    while let [x, rest @ ..] = left {
+        if !leads_all(side, x, rest) {
             return false;
         }
+        left = rest;
     }
     true
 }
 
-// Whether each order has this to do with each that follows it.
-fn is_pairwise(relation: Relation, xs: &[Order]) -> bool
-    ensures { result ≡ pairwise (related relation) xs.now }
+// Whether none of the others has this order's number.
+fn differs_from_all(x: &Order, ys: &[Order]) -> bool
+    ensures { result ≡ all (differ x.now) ys.now }
 {
-    for i in 0..xs.len() {
-        if !relates_to_all(relation, &xs[i], &xs[i + 1..]) {
+    ys.iter().all(|y| x.number != y.number)
+}
+
+// Whether no two orders have one number. (The loop of `are_ranked` with another test: one text of both would take the test
+// as a closure, of which the same stays open.)
+fn are_distinct(xs: &[Order]) -> bool
+    ensures { result ≡ pairwise differ xs.now }
+{
+    let mut left = xs;
+    while let [x, rest @ ..] = left {
+        if !differs_from_all(x, rest) {
             return false;
         }
+        left = rest;
     }
     true
 }
 
-// Whether each of the first orders has this to do with each of the second.
-pub(crate) fn is_across(relation: Relation, xs: &[Order], ys: &[Order]) -> bool
-    ensures { result ≡ across (related relation) xs.now ys.now }
+// Whether no number is on both sides. (Both sides go together here and below, as the two lists of one state: a struct of them
+// would be the image again, or the market, from which they are lent.)
+fn are_separate(buys: &[Order], sells: &[Order]) -> bool
+    ensures { result ≡ across differ buys.now sells.now }
 {
-    for x in xs {
-        if !relates_to_all(relation, x, ys) {
-            return false;
-        }
-    }
-    true
+    buys.iter().all(|buy| differs_from_all(buy, sells))
+}
+
+fn is_below_all(buy: &Order, sells: &[Order]) -> bool
+    ensures { result ≡ all (below buy.now) sells.now }
+{
+    sells.iter().all(|sell| buy.price < sell.price)
+}
+
+// Whether every buy is below every sell in price.
+pub(crate) fn are_apart(buys: &[Order], sells: &[Order]) -> bool
+    ensures { result ≡ across below buys.now sells.now }
+{
+    buys.iter().all(|buy| is_below_all(buy, sells))
 }
 
 // Whether an order keeps the ranges that it entered with, under one of the first numbers.
 fn is_kept(last: CommandNumber, x: &Order) -> bool
     ensures { result ≡ kept last.0 x.now }
 {
-    1 <= x.member.0
-        && x.member.0 <= 999_999
-        && 1 <= x.price.0
-        && x.price.0 <= 1_000_000
-        && 1 <= x.lots.0
-        && x.lots.0 <= 1_000_000
-        && 1 <= x.number.0
-        && x.number.0 <= last.0
+    x.member.is_good()
+        && x.price.is_good()
+        && x.lots.is_good()
+        && (1..=last.0).contains(&x.number.0)
 }
 
 fn all_kept(last: CommandNumber, xs: &[Order]) -> bool
     ensures { result ≡ all (kept last.0) xs.now }
 {
-    for x in xs {
-        if !is_kept(last, x) {
-            return false;
-        }
-    }
-    true
+    xs.iter().all(|x| is_kept(last, x))
 }
 
 fn side_is_sound(side: Side, last: CommandNumber, xs: &[Order]) -> bool
     ensures { result ≡ side_sound side last.0 xs.now }
 {
-    xs.len() <= 32
-        && is_pairwise(Relation::Before(side), xs)
-        && is_pairwise(Relation::Differ, xs)
-        && all_kept(last, xs)
+    xs.len() <= 32 && are_ranked(side, xs) && are_distinct(xs) && all_kept(last, xs)
 }
 
 // Whether a state is one that a market can be in.
@@ -117,5 +102,5 @@ pub(crate) fn is_sound_state(last: CommandNumber, buys: &[Order], sells: &[Order
     last.0 <= LAST_NUMBER
         && side_is_sound(Side::Buy, last, buys)
         && side_is_sound(Side::Sell, last, sells)
-        && is_across(Relation::Differ, buys, sells)
+        && are_separate(buys, sells)
 }

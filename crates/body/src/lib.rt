@@ -6,7 +6,6 @@
 //! Trusted: the toolchain.
 #![tactic(auto)]
 
-mod bytes;
 mod checks;
 pub mod image;
 pub mod reading;

@@ -1,51 +1,30 @@
 //! A body is written.
-ghost use Rattle.std.specs.Prelude.{◌≡◌, ◌+◌, ◌*◌, ◌≤◌, length};
-ghost use Rattle.body.specs.Layout.{Put, order_fields, order_bytes, orders_bytes, body};
+ghost use Rattle.std.specs.Prelude.{◌≡◌, ◌+◌, ◌*◌, ◌≤◌, ◌++◌, length};
+ghost use Rattle.body.specs.Layout.{order_bytes, orders_bytes, body};
 
-use crate::bytes::put;
 use market::orders::Order;
+use records::buffers::RecordBuffer;
 use records::numbers::CommandNumber;
 
-// The fields of an order, in the order of their bytes.
-#[derive(Drop)]
-struct OrderFields {
-    number: u64,
-    member: u64,
-    price: u64,
-    lots: u64,
-}
-
-fn fields_of(order: &Order) -> OrderFields
-    ensures { result ≡ order_fields order.now }
+fn put_order(out: &mut RecordBuffer<1536>, order: &Order)
+    requires { length out.old + 20 ≤ 1536 }
+    ensures bytes { out.new ≡ out.old ++ order_bytes order.now }
+    ensures len { length out.new ≡ length out.old + 20 }
 {
-    OrderFields {
-        number: order.number.0,
-        member: order.member.0 as u64,
-        price: order.price.0 as u64,
-        lots: order.lots.0 as u64,
-    }
-}
-
-fn put_order(out: &mut [u8], at: usize, order: &Order)
-    requires { at + 20 ≤ length out.old }
-    ensures { Put out.old at (order_bytes order.now) out.new }
-{
-    let fields = fields_of(order);
-    put(out, at, 8, fields.number);
-    put(out, at + 8, 4, fields.member);
-    put(out, at + 12, 4, fields.price);
-    put(out, at + 16, 4, fields.lots);
+    out.put(order.number.0);
+    out.put(order.member.0);
+    out.put(order.price.0);
+    out.put(order.lots.0);
 }
 
 // Writes the orders one after another.
-fn put_orders(out: &mut [u8], at: usize, orders: &[Order])
-    requires { at + 20 * length orders.now ≤ length out.old }
-    ensures { Put out.old at (orders_bytes orders.now) out.new }
+fn put_orders(out: &mut RecordBuffer<1536>, orders: &[Order])
+    requires { length out.old + 20 * length orders.now ≤ 1536 }
+    ensures bytes { out.new ≡ out.old ++ orders_bytes orders.now }
+    ensures len { length out.new ≡ length out.old + 20 * length orders.now }
 {
-    let mut to = at;
     for order in orders {
-        put_order(out, to, order);
-        to += 20;
+        put_order(out, order);
     }
 }
 
@@ -54,10 +33,11 @@ pub fn write_body(last: CommandNumber, buys: &[Order], sells: &[Order], out: &mu
     requires { (length buys.now ≤ 32) × (length sells.now ≤ 32) }
     ensures { out.new ≡ body (record { last = last.0; buys = buys.now; sells = sells.now }) }
 {
-    *out = [0; 1536];
-    put(out, 0, 8, last.0);
-    put(out, 8, 2, buys.len() as u64);
-    put(out, 10, 2, sells.len() as u64);
-    put_orders(out, 12, buys);
-    put_orders(out, 12 + 20 * buys.len(), sells);
+    let mut body = RecordBuffer::new();
+    body.put(last.0);
+    body.put(buys.len() as u16);
+    body.put(sells.len() as u16);
+    put_orders(&mut body, buys);
+    put_orders(&mut body, sells);
+    *out = body.into_array();
 }

@@ -89,6 +89,7 @@ mod tests {
         ]
     }
 
+    // By hand, apart from the code that it tests.
     fn put(body: &mut [u8; 1536], f: Field) {
         let mut rest = f.number;
         for i in 0..f.width as usize {

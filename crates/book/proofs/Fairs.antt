@@ -1,29 +1,27 @@
 -- The book is fair.
-use Rattle.std.proofs.Common.{◌≡◌, ℕ, ◌+◌, ◌≤◌, Bool, true, false, cond, eqb, ltb, ◌⊎◌, List, [], ◌∷◌, ◌++◌, length, take, IfOk, Result, sym, refl, ap, ◌∙◌, subst, inl, inr, ⊎_elim, arith, rules, ltb-true, eq-eqb, eqb-true}
-use Rattle.std.specs.Option.{option_to_list}
+use Rattle.std.proofs.Common.{◌≡◌, ℕ, ◌+◌, ◌<◌, ◌≤◌, Bool, true, false, cond, eqb, ltb, ◌⊎◌, List, [], ◌∷◌, ◌++◌, length, take, sym, refl, ap, ◌∙◌, subst, inl, inr, ⊎_elim, arith, rules, ltb-true, eq-eqb, eqb-true}
 use Rattle.std.proofs.lemmas.Bool.{and_parts}
 use Rattle.std.proofs.lemmas.List.{append-nil}
+use Rattle.records.specs.Commands.{good}
 use Rattle.records.specs.declared.commands.Side.{Side}
 use Rattle.records.specs.declared.commands.Side.TheVariants.{Buy, Sell}
 use Rattle.records.specs.declared.commands.Command.{Command}
 use Rattle.records.specs.declared.commands.Command.TheVariants.{Enter, Cancel, Cross}
-use Rattle.records.specs.declared.notices.Kind.TheVariants.{Dropped}
 use Rattle.records.specs.declared.notices.Notice.{Notice}
-use Rattle.records.specs.declared.refusals.Refusal.{Refusal}
 use Rattle.market.specs.declared.orders.Order.{Order}
 use Rattle.market.specs.Lists.{all, pairwise, placed, In}
-use Rattle.market.specs.Orders.{before, other, accepts, below, total, kept, differ, less, rested, dropped}
+use Rattle.market.specs.Orders.{before, other, accepts, total, kept, differ, less, dropped}
 use Rattle.market.specs.Resting.{Resting, arriving}
-use Rattle.market.specs.Steps.{Applied}
+use Rattle.market.specs.Steps.{Taken}
 use Rattle.market.proofs.ListLaws.{all_weaken, all_in}
 use Rattle.market.proofs.Sounds.{SideSound, all_new}
-use Rattle.market.proofs.StepLaws.{answer_tells}
+use Rattle.market.proofs.StepLaws.{stepped_acts, taken_tells}
 use Rattle.book.specs.Matching.{trades, fill_with, met, traded}
-use Rattle.book.specs.Steps.{Valid, entered, book_step}
-use Rattle.book.specs.Fairness.{side_of, LeftOf, FairFill, open_lots, Entry, Uncrossed, Fair}
+use Rattle.book.specs.Steps.{Valid, entered, acted, book_step}
+use Rattle.book.specs.Fairness.{side_of, LeftOf, FairFill, open_lots, Entry, Fair}
 use Rattle.book.specs.Meetings.{met_ind}
 use Rattle.book.specs.Sounds.{book_fact, met_taker}
-use Rattle.book.specs.Laws.{keeps}
+use Rattle.book.specs.Laws.{keeps, uncrossed}
 
 in_append : {X : Type 0} (x : X) (xs ys : List X) → In x (xs ++ ys) → In x xs ⊎ In x ys
 in_append x [] ys i = inr i
@@ -174,12 +172,6 @@ kept_some : (n : ℕ) (r : Order) → kept n r ≡ true → some_lots r ≡ true
 unfolding some_lots
 kept_some n r h = search rules
 
-dropped_kind : (s : Side) (o : Order) (xs : List Order) (v : Notice) → In v (option_to_list (rested s o xs).1) → v.kind ≡ Dropped
-dropped_kind s o xs v = way (ltb (length xs) 32) refl where
-  way : (b : Bool) → ltb (length xs) 32 ≡ b → In v (option_to_list (rested s o xs).1) → v.kind ≡ Dropped
-  way true e = simp e (λ (i : ⊥). absurd i)
-  way false e = simp e (λ (i : (v ≡ dropped o) ⊎ ⊥). ⊎_elim (λ k. ap (λ w. w.kind) k) (λ k. absurd k) i)
-
 -- an order has entered
 module _ (s : Side) (o : Order) (n : ℕ) (own opposite : List Order) (new : o.number.0 ≡ n + 1) (f : SideSound s n own) (g : SideSound (other s) n opposite) where
   fills_fair : (ns : List Notice) → ((w : Notice) → In w (met s o opposite).fills → In w ns) → (v : Notice) → In v (met s o opposite).fills → FairFill s o opposite ns v
@@ -229,12 +221,6 @@ module _ (s : Side) (o : Order) (n : ℕ) (own opposite : List Order) (new : o.n
           opposite_comes = λ q i. met_comes s q o opposite i;
         })
 
-uncrossed : (h : Resting) → Valid h → Uncrossed h
-uncrossed h v b s i j =
-    let f = book_fact h v in
-    let k = all_in (λ x. all (below x) h.sells) b h.buys i f.1 in
-    ltb-true b.price.0 s.price.0 (all_in (below b) s h.sells j k)
-
 entered_fair : (h : Resting) (s : Side) (o : Order) → o.number.0 ≡ h.last + 1 → Valid h →
     Entry s o (side_of s h) (side_of (other s) h) (side_of s (entered h s o).0) (side_of (other s) (entered h s o).0) (entered h s o).1
 entered_fair h Buy o new v = let f = book_fact h v in entry Buy o h.last h.buys h.sells new f.0.buys f.0.sells
@@ -251,7 +237,6 @@ fair h (Enter m s p q) v =
 fair h (Cancel m n) v = uncrossed _ (keeps h (Cancel m n) v)
 fair h Cross v = uncrossed _ (keeps h Cross v)
 
--- what an answer tells of the step, it tells of what is fair
-pub fair_answer : (h : Resting) (c : Command) (xs : List Notice) (h' : Resting) (ys : List Notice) (r : Result ℕ Refusal) → Valid h →
-    Applied h (book_step h c) xs h' ys r → IfOk r (λ n. Fair h c h' (take n ys))
-fair_answer h c xs h' ys r v a = answer_tells (Fair h c) h (book_step h c) xs h' ys r (fair h c v) a
+-- and so is what is done at a good command, as it is left in the lent list
+pub acted_fair : (h : Resting) (c : Command) {xs : List Notice} {t : Resting} {ys : List Notice} {n : ℕ} → Valid h → h.last < 1_000_000_000_000 → good c ≡ true → Taken (acted h c) xs t ys n → Fair h c t (take n ys)
+acted_fair h c v l g a = taken_tells (Fair h c) (subst (λ t. Fair h c t.0 t.1) (stepped_acts acted h c l g) (fair h c v)) a

@@ -1,6 +1,5 @@
 pub mod Fairness
 pub mod Matching
-pub mod Means
 pub mod Steps
 pub mod Laws
 pub mod Meetings

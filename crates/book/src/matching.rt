@@ -25,10 +25,7 @@ fn opposite_of(side: Side) -> Side
 fn can_trade(side: Side, taker: &Order, maker: &Order) -> bool
     ensures { result ≡ trades side taker.now maker.now }
 {
-    match side {
-        Side::Buy => taker.lots.0 > 0 && maker.price.0 <= taker.price.0,
-        Side::Sell => taker.lots.0 > 0 && taker.price.0 <= maker.price.0,
-    }
+    taker.lots.0 > 0 && taker.accepts(side, maker.price)
 }
 
 // The fill of the entering order with a resting one, at the resting price.
@@ -41,7 +38,8 @@ fn fill_between(side: Side, taker: &Order, maker: &Order, lots: Lots) -> Notice
     }
 }
 
-// One fill of the entering order with the first in rank, if they trade.
+// One fill of the entering order with the first in rank, if they trade. (Side, order, table and list are lent together through
+// the steps of one command; a struct of them would be made anew for each step.)
 fn fill_first(side: Side, taker: &mut Order, opposite: &mut OrderTable) -> Option<Notice>
     requires { pairwise (before (other side)) (rows opposite.old) ≡ true }
     ensures cases { MatchOption result (Stopped side taker.old (rows opposite.old) taker.new (rows opposite.new))
@@ -60,7 +58,8 @@ fn fill_first(side: Side, taker: &mut Order, opposite: &mut OrderTable) -> Optio
     Some(notice)
 }
 
-// The entering order meets the other side while they trade; the fills go over the front of the list.
+// The entering order meets the other side while they trade; the fills go over the front of the list,
+// which is lent, so the answer counts them.
 fn meet(side: Side, taker: &mut Order, opposite: &mut OrderTable, list: &mut [Notice]) -> usize
     requires ranked { pairwise (before (other side)) (rows opposite.old) ≡ true }
     requires room { length (rows opposite.old) ≤ length list.old }
@@ -76,6 +75,7 @@ fn meet(side: Side, taker: &mut Order, opposite: &mut OrderTable, list: &mut [No
 }
 
 // An order trades with the other side; what is left of it rests on its own, or is dropped.
+// The list is lent: nothing allocates on the way of a call.
 pub(crate) fn trade(
     side: Side,
     order: Order,

@@ -1,13 +1,7 @@
-ghost use Rattle.std.specs.Prelude.{◌≡◌, true};
-ghost use Rattle.market.specs.Means.{state_of, HasRoom};
-ghost use Rattle.book.specs.Steps.{book_sound};
+use ruled_market::shape::RestingMarket;
 
-use market::resting::RestingOrders;
+/// The rules of a running book: orders trade as they enter.
+pub struct Continuous;
 
 /// A running book.
-#[derive(Drop)]
-pub struct Book {
-    pub(crate) resting: RestingOrders,
-    ghost ok: { book_sound (state_of resting) ≡ true },
-    ghost room: { HasRoom resting },
-}
+pub type Book = RestingMarket<Continuous>;

@@ -1,26 +1,26 @@
 -- A cross is fair.
-use Rattle.std.proofs.Common.{◌≡◌, ℕ, zero, suc, ◌+◌, ◌-◌, ◌<◌, ◌≤◌, Bool, true, false, cond, eqb, ltb, ◌⊎◌, List, [], ◌∷◌, length, take, IfOk, Result, sym, refl, ap, ◌∙◌, subst, inl, inr, ⊎_elim, arith, rules, ltb-true, eqb-true, leb-true}
+use Rattle.std.proofs.Common.{◌≡◌, ℕ, zero, suc, ◌+◌, ◌-◌, ◌<◌, ◌≤◌, Bool, true, false, cond, eqb, ltb, ◌⊎◌, List, [], ◌∷◌, length, take, sym, refl, ap, ◌∙◌, subst, inl, inr, ⊎_elim, arith, rules, ltb-true, eqb-true, leb-true}
 use borrow.Author.Tests.{eqb-false}
 use Rattle.std.proofs.lemmas.Bool.{and_parts}
+use Rattle.records.specs.Commands.{good}
 use Rattle.records.specs.declared.numbers.CommandNumber.{CommandNumber}
 use Rattle.records.specs.declared.numbers.Price.{Price}
 use Rattle.records.specs.declared.commands.Side.TheVariants.{Buy, Sell}
 use Rattle.records.specs.declared.commands.Command.{Command}
 use Rattle.records.specs.declared.commands.Command.TheVariants.{Enter, Cancel, Cross}
 use Rattle.records.specs.declared.notices.Notice.{Notice}
-use Rattle.records.specs.declared.refusals.Refusal.{Refusal}
 use Rattle.market.specs.declared.orders.Order.{Order}
 use Rattle.market.specs.Lists.{all, In}
 use Rattle.market.specs.Orders.{accepts, kept, less, reduced, fill, total}
 use Rattle.market.specs.Resting.{Resting, next}
-use Rattle.market.specs.Steps.{Applied}
+use Rattle.market.specs.Steps.{Taken}
 use Rattle.market.proofs.ListLaws.{true_and, all_weaken}
 use Rattle.market.proofs.Sounds.{sound_fact}
-use Rattle.market.proofs.StepLaws.{answer_tells}
+use Rattle.market.proofs.StepLaws.{stepped_acts, taken_tells}
 use Rattle.call.specs.Clearing.{lots_in, at_price, clearing}
 use Rattle.call.specs.Crossing.{taken, pair_lots, pair, pairs, Fillable}
 use Rattle.call.specs.Fairness.{Rests, matched_at, Idle, FairPair, FilledInRank, Crossing, Fair}
-use Rattle.call.specs.Steps.{Valid, crossed, call_step}
+use Rattle.call.specs.Steps.{Valid, crossed, acted, call_step}
 use Rattle.call.specs.Clearings.{offered_within, no_more, lower_fewer, clearing_best, clearing_from, clearing_matched}
 use Rattle.call.specs.Pairings.{some_order, buyer_accepts, seller_accepts, core, ended}
 use Rattle.call.specs.Sounds.{taken_ind, taken_lots, fillable}
@@ -199,7 +199,6 @@ fair h (Enter m s p q) v = tt
 fair h (Cancel m n) v = tt
 fair h Cross v = λ l. let e : ltb h.last 1_000_000_000_000 ≡ true = search rules in simp e (crossed_fair h v)
 
--- what an answer tells of the step, it tells of what is fair
-pub fair_answer : (h : Resting) (c : Command) (xs : List Notice) (h' : Resting) (ys : List Notice) (r : Result ℕ Refusal) → Valid h →
-    Applied h (call_step h c) xs h' ys r → IfOk r (λ n. Fair h c h' (take n ys))
-fair_answer h c xs h' ys r v a = answer_tells (Fair h c) h (call_step h c) xs h' ys r (fair h c v) a
+-- and so is what is done at a good command, as it is left in the lent list
+pub acted_fair : (h : Resting) (c : Command) {xs : List Notice} {t : Resting} {ys : List Notice} {n : ℕ} → Valid h → h.last < 1_000_000_000_000 → good c ≡ true → Taken (acted h c) xs t ys n → Fair h c t (take n ys)
+acted_fair h c v l g a = taken_tells (Fair h c) (subst (λ t. Fair h c t.0 t.1) (stepped_acts acted h c l g) (fair h c v)) a

@@ -1,5 +1,6 @@
 -- The price of a cross.
 use Rattle.std.specs.Prelude.{ℕ, ◌+◌, ◌<◌, min, Bool, cond, List, [], ◌∷◌}
+use Rattle.std.specs.List.{fold}
 use Rattle.rank.specs.Ranked.{high_first}
 use Rattle.records.specs.declared.numbers.Price.{Price}
 use Rattle.records.specs.declared.commands.Side.{Side}
@@ -13,10 +14,14 @@ abbrev pub lots_in : List Order → ℕ
 lots_in [] = 0
 lots_in (x ∷ xs) = x.lots.0 + lots_in xs
 
+-- the lots of an order of a side, where it accepts price p
+abbrev pub lots_at : Side → ℕ → Order → ℕ
+lots_at s p x = cond (accepts s x.price.0 p) x.lots.0 0
+
 -- the lots of a side's orders that accept price p: of the buys at p or above, of the sells at p or below
 abbrev pub offered : Side → ℕ → List Order → ℕ
 offered s p [] = 0
-offered s p (x ∷ xs) = cond (accepts s x.price.0 p) x.lots.0 0 + offered s p xs
+offered s p (x ∷ xs) = lots_at s p x + offered s p xs
 
 -- the lots that a cross at price p matches: the smaller of the lots bought at p or above and the lots sold at p or below
 abbrev pub matched : List Order → List Order → ℕ → ℕ
@@ -29,10 +34,13 @@ at_price buys sells p = record { price = p; lots = record { 0 = matched buys sel
 abbrev pub preferred : Clearing → Clearing → Bool
 preferred c d = high_first (c.lots.0, c.price.0) (d.lots.0, d.price.0)
 
+-- the best of c and the price of the order x
+abbrev pub better : List Order → List Order → Clearing → Order → Clearing
+better buys sells c x = cond (preferred (at_price buys sells x.price) c) (at_price buys sells x.price) c
+
 -- the best of c and the prices of the orders xs
 abbrev pub best : List Order → List Order → Clearing → List Order → Clearing
-best buys sells c [] = c
-best buys sells c (x ∷ xs) = best buys sells (cond (preferred (at_price buys sells x.price) c) (at_price buys sells x.price) c) xs
+best buys sells c xs = fold (better buys sells) c xs
 
 -- no price is taken yet
 abbrev pub no_clearing : Clearing

@@ -1,13 +1,14 @@
 -- The sum of a side's lots, and the best of the resting prices, one order after another.
-use Rattle.std.specs.Prelude.{◌≡◌, ℕ, ◌+◌, ◌<◌, ◌≤◌, Bool, true, false, cond, ◌⊎◌, List, [], ◌∷◌, length, drop, slice_index_or, refl}
+use Rattle.std.specs.Prelude.{◌≡◌, ℕ, ◌+◌, ◌<◌, ◌≤◌, Bool, true, false, cond, ◌⊎◌, List, [], ◌∷◌, length, drop, slice_index_or, refl, sum_by}
 use Rattle.std.proofs.Common.{sym, ap, subst, ◌∙◌, inl, inr, ⊎_elim, arith, rules}
 use Rattle.std.proofs.lemmas.List.{drop_more, drop_all}
+use Rattle.std.proofs.lemmas.List.Sums.{sum_by-cons}
 use Rattle.records.specs.declared.commands.Side.{Side}
 use Rattle.market.specs.declared.orders.Order.{Order}
 use Rattle.market.specs.Lists.{In}
 use Rattle.market.specs.Orders.{accepts}
 use Rattle.call.specs.declared.clearing.Clearing.{Clearing}
-use Rattle.call.specs.Clearing.{lots_in, offered, at_price, matched, preferred, best, no_clearing, clearing}
+use Rattle.call.specs.Clearing.{lots_in, offered, at_price, matched, preferred, best, no_clearing, clearing, lots_at, FewLots}
 
 pub offered_within : (s : Side) (p : ℕ) (xs : List Order) → offered s p xs ≤ lots_in xs
 offered_within s p [] = omega arith
@@ -19,6 +20,11 @@ offered_within s p (x ∷ xs) = way (accepts s x.price.0 p) (offered_within s p 
 -- the lots t of the first i orders, and those to come
 pub record Summed (s : Side) (p : ℕ) (xs : List Order) (i t : ℕ) : Type 0 where
   pub so : t + offered s p (drop i xs) ≡ offered s p xs
+
+-- as a sum
+pub offered_sum : (s : Side) (p : ℕ) (xs : List Order) → sum_by (lots_at s p) xs ≡ offered s p xs
+offered_sum s p [] = refl
+offered_sum s p (x ∷ xs) = sum_by-cons (lots_at s p) x xs ∙ ap (λ n. lots_at s p x + n) (offered_sum s p xs)
 
 module _ {s : Side} {p : ℕ} {xs : List Order} {i t : ℕ} (f : Summed s p xs i t) (d : Order) (l : i < length xs) where
   pub summed_yes : accepts s (slice_index_or xs i d).price.0 p ≡ true → Summed s p xs (i + 1) (t + (slice_index_or xs i d).lots.0)
@@ -55,6 +61,9 @@ module _ {buys sells : List Order} {c : Clearing} {xs : List Order} {i : ℕ} {b
 
 pub bested_all : {buys sells : List Order} {c : Clearing} {xs : List Order} {i : ℕ} {b : Clearing} → Bested buys sells c xs i b → length xs ≤ i → b ≡ best buys sells c xs
 bested_all {buys} {sells} {c} {xs} {i} {b} f l = rw (drop_all i xs l) at f.so
+
+pub offered_fits : (s : Side) (p : ℕ) (xs : List Order) → FewLots xs → sum_by (lots_at s p) xs < 4_294_967_296
+offered_fits s p xs f = omega (arith, offered_sum s p xs, offered_within s p xs)
 
 -- what is taken is the best of all that came by
 over_taken : (d c b : Clearing) → preferred d c ≡ true → preferred d b ≡ false → preferred c b ≡ false

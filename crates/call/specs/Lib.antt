@@ -1,7 +1,6 @@
 pub mod Clearing
 pub mod Crossing
 pub mod Fairness
-pub mod Means
 pub mod Steps
 pub mod Laws
 pub mod Pairings

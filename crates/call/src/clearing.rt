@@ -1,11 +1,11 @@
 //! The price that a cross takes.
-ghost use Rattle.std.specs.Prelude.{◌≡◌};
-ghost use Rattle.market.specs.Orders.{accepts as side_accepts};
-ghost use Rattle.call.specs.Clearing.{offered, at_price, preferred, best, clearing, Summable, FewLots};
+ghost use Rattle.std.specs.Prelude.{◌≡◌, ◌^◌, ◌<◌, sum_by};
+ghost use Rattle.call.specs.Clearing.{lots_at, at_price, preferred, better, best, clearing, Summable};
 
 use market::orders::Order;
 use records::commands::Side;
 use records::numbers::{Lots, Price};
+use std::cmp::Reverse;
 
 /// A price, and the lots that a cross at it would match.
 #[derive(Clone, Copy)]
@@ -14,73 +14,81 @@ pub(crate) struct Clearing {
     pub(crate) lots: Lots,
 }
 
-// Whether an order of a side, at its own price, trades at this one.
-fn accepts(side: Side, own: Price, price: Price) -> bool
-    ensures { result ≡ side_accepts side own.0 price.0 }
+/// The orders of both sides. The lots of each side can be summed.
+#[derive(Clone, Copy)]
+pub(crate) struct Sides<'a> {
+    pub(crate) buys: &'a [Order],
+    pub(crate) sells: &'a [Order],
+    ghost few: { Summable buys.now sells.now },
+}
+
+// The lots of an order, where it accepts a price. (Side and price are what is asked of each row; a struct of both would only be
+// taken apart.)
+fn lots_at_price(side: Side, price: Price, row: &Order) -> u32
+    ensures { result ≡ lots_at side price.0 row.now }
 {
-    match side {
-        Side::Buy => own.0 >= price.0,
-        Side::Sell => own.0 <= price.0,
+    if row.accepts(side, price) {
+        row.lots.0
+    } else {
+        0
     }
 }
 
 // The lots of a side's orders that accept a price.
-fn lots_offered(side: Side, price: Price, rows: &[Order]) -> Lots
-    requires { FewLots rows.now }
-    ensures { result.0 ≡ offered side price.0 rows.now }
+fn lots_offered(side: Side, price: Price, rows: &[Order]) -> u32
+    requires { sum_by (lots_at side price.0) rows.now < 2 ^ 32 }
+    ensures { result ≡ sum_by (lots_at side price.0) rows.now }
 {
-    let mut lots: u32 = 0;
-    for row in rows {
-        if accepts(side, row.price, price) {
-            lots += row.lots.0;
-        }
-    }
-    Lots(lots)
-}
-
-// What a cross at this price would match.
-fn clearing_at(price: Price, buys: &[Order], sells: &[Order]) -> Clearing
-    requires { Summable buys.now sells.now }
-    ensures { result ≡ at_price buys.now sells.now price }
-{
-    let bought = lots_offered(Side::Buy, price, buys);
-    let sold = lots_offered(Side::Sell, price, sells);
-    Clearing {
-        price,
-        lots: Lots(bought.0.min(sold.0)),
-    }
+    rows.iter().map(|row| lots_at_price(side, price, row)).sum()
 }
 
 // Whether the first is taken rather than the second.
 fn is_preferred(a: &Clearing, b: &Clearing) -> bool
     ensures { result ≡ preferred a.now b.now }
 {
-    a.lots.0 > b.lots.0 || a.lots.0 == b.lots.0 && a.price.0 < b.price.0
+    (Reverse(a.lots), a.price) < (Reverse(b.lots), b.price)
 }
 
-// The best of what is taken so far and the prices of some of the orders.
-fn best_of(start: Clearing, rows: &[Order], buys: &[Order], sells: &[Order]) -> Clearing
-    requires { Summable buys.now sells.now }
-    ensures { result ≡ best buys.now sells.now start rows.now }
-{
-    let mut best = start;
-    for row in rows {
-        let candidate = clearing_at(row.price, buys, sells);
-        if is_preferred(&candidate, &best) {
-            best = candidate;
+impl Sides<'_> {
+    // What a cross at this price would match.
+    fn at_price(&self, price: Price) -> Clearing
+        ensures { result ≡ at_price self.now.buys.now self.now.sells.now price }
+    {
+        let bought = lots_offered(Side::Buy, price, self.buys);
+        let sold = lots_offered(Side::Sell, price, self.sells);
+        Clearing {
+            price,
+            lots: Lots(bought.min(sold)),
         }
     }
-    best
-}
 
-// The resting price with the most matched lots, the lowest of several; 0 lots where none matches.
-pub(crate) fn clearing_of(buys: &[Order], sells: &[Order]) -> Clearing
-    requires { Summable buys.now sells.now }
-    ensures { result ≡ clearing buys.now sells.now }
-{
-    let none = Clearing {
-        price: Price(0),
-        lots: Lots(0),
-    };
-    best_of(best_of(none, buys, buys, sells), sells, buys, sells)
+    // The best of what is taken so far and the price of an order.
+    fn better(&self, best: Clearing, row: &Order) -> Clearing
+        ensures { result ≡ better self.now.buys.now self.now.sells.now best row.now }
+    {
+        let candidate = self.at_price(row.price);
+        if is_preferred(&candidate, &best) {
+            candidate
+        } else {
+            best
+        }
+    }
+
+    // The best of what is taken so far and the prices of some of the orders.
+    fn best_of(&self, start: Clearing, rows: &[Order]) -> Clearing
+        ensures { result ≡ best self.now.buys.now self.now.sells.now start rows.now }
+    {
+        rows.iter().fold(start, |best, row| self.better(best, row))
+    }
+
+    /// The resting price with the most matched lots, the lowest of several; 0 lots where none matches.
+    pub(crate) fn clearing(&self) -> Clearing
+        ensures { result ≡ clearing self.now.buys.now self.now.sells.now }
+    {
+        let none = Clearing {
+            price: Price(0),
+            lots: Lots(0),
+        };
+        self.best_of(self.best_of(none, self.buys), self.sells)
+    }
 }

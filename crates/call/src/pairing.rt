@@ -40,7 +40,8 @@ fn pair_first(
     notice
 }
 
-// The sides pair until all lots are filled; the fills go over the front of the list.
+// The sides pair until all lots are filled; the fills go over the front of the list, which is lent,
+// so the answer counts them.
 pub(crate) fn pair_all(
     command: CommandNumber,
     clearing: Clearing,

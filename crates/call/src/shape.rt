@@ -1,13 +1,7 @@
-ghost use Rattle.std.specs.Prelude.{◌≡◌, true};
-ghost use Rattle.market.specs.Resting.{sound};
-ghost use Rattle.market.specs.Means.{state_of, HasRoom};
+use ruled_market::shape::RestingMarket;
 
-use market::resting::RestingOrders;
+/// The rules of a call auction: orders rest as they enter, and a cross trades them all at once.
+pub struct Crossing;
 
 /// A running call auction.
-#[derive(Drop)]
-pub struct CallAuction {
-    pub(crate) resting: RestingOrders,
-    ghost ok: { sound (state_of resting) ≡ true },
-    ghost room: { HasRoom resting },
-}
+pub type CallAuction = RestingMarket<Crossing>;

@@ -4,12 +4,17 @@
 //! Trusted: the toolchain and the C library.
 #![tactic(auto)]
 
+ghost use Rattle.std.specs.Prelude.{◌≡◌};
+ghost use Rattle.cli.specs.declared.Fault.TheVariants.{NoNumber};
+
 use jobs::faults::JobFault;
 use jobs::matching::{MarketKind, match_orders};
 use jobs::paging::page_orders;
 use plays::playing::play_script;
 use std::alloc::{AllocError, Global};
+use std::process::ExitCode;
 use std::{env, fmt, io};
+use words::{NoNumber, number};
 
 const USAGE: &str =
     "usage: hammerbuff match [--market book|call]  match the commands of standard input in a book (or a call)
@@ -67,6 +72,14 @@ impl From<JobFault> for Fault {
     }
 }
 
+impl From<NoNumber> for Fault {
+    ghost from_gives = { λ n f. f ≡ NoNumber n.0 };
+
+    fn from(fault: NoNumber) -> Fault {
+        Fault::NoNumber(fault.0)
+    }
+}
+
 impl From<io::Error> for Fault {
     fn from(e: io::Error) -> Fault {
         Fault::Stopped(JobFault::Io(e))
@@ -84,54 +97,47 @@ fn unknown(heap: Global, word: &str) -> Result<Job, Fault> {
 }
 
 // The words after `match`.
-fn match_job(heap: Global, options: &[String]) -> Result<Job, Fault> {
+fn match_job(heap: Global, options: &[&str]) -> Result<Job, Fault> {
     match options {
         [] => Ok(Job::Match {
             market: MarketKind::Book,
         }),
-        [option, name] if option.as_str() == "--market" => match name.as_str() {
-            "book" => Ok(Job::Match {
-                market: MarketKind::Book,
-            }),
-            "call" => Ok(Job::Match {
-                market: MarketKind::Call,
-            }),
-            word => unknown(heap, word),
+        ["--market", name] => match name.parse() {
+            Ok(market) => Ok(Job::Match { market }),
+            Err(_) => unknown(heap, name),
         },
-        [word, ..] => unknown(heap, word.as_str()),
+        [word, ..] => unknown(heap, word),
     }
 }
 
 // The words after `page`.
-fn page_job(heap: Global, options: &[String]) -> Result<Job, Fault> {
+fn page_job(heap: Global, options: &[&str]) -> Result<Job, Fault> {
     match options {
-        [option, value] if option.as_str() == "--sectors" => match value.as_str().parse::<usize>() {
-            Ok(sectors) => Ok(Job::Page { sectors }),
-            Err(_) => Err(Fault::NoNumber("--sectors")),
-        },
-        [] => Err(Fault::NoNumber("--sectors")),
-        [option] if option.as_str() == "--sectors" => Err(Fault::NoNumber("--sectors")),
-        [word, ..] => unknown(heap, word.as_str()),
+        ["--sectors", value] => Ok(Job::Page {
+            sectors: number(value, "--sectors")?,
+        }),
+        [] | ["--sectors"] => Err(Fault::NoNumber("--sectors")),
+        [word, ..] => unknown(heap, word),
     }
 }
 
 // The job that the words after the program's name ask for.
-fn job_of(heap: Global, words: &[String]) -> Result<Job, Fault> {
+fn job_of(heap: Global, words: &[&str]) -> Result<Job, Fault> {
     match words {
         [] => Err(Fault::NoJob),
-        [first, ..] if first.as_str() == "--help" => Ok(Job::Help),
-        [_, second, ..] if second.as_str() == "--help" => Ok(Job::Help),
-        [first, options @ ..] if first.as_str() == "match" => match_job(heap, options),
-        [first, options @ ..] if first.as_str() == "page" => page_job(heap, options),
-        [first] if first.as_str() == "play" => Ok(Job::Play),
-        [first, word, ..] if first.as_str() == "play" => unknown(heap, word.as_str()),
-        [first, ..] => unknown(heap, first.as_str()),
+        ["--help", ..] | [_, "--help", ..] => Ok(Job::Help),
+        ["match", options @ ..] => match_job(heap, options),
+        ["page", options @ ..] => page_job(heap, options),
+        ["play"] => Ok(Job::Play),
+        ["play", word, ..] => unknown(heap, word),
+        [word, ..] => unknown(heap, word),
     }
 }
 
 fn run(rt: &HostRuntime) -> Result<(), Fault> {
     let heap = rt.alloc();
-    let words: Vec<String> = env::args(rt)?.skip(1).collect(heap)?;
+    let args: Vec<String> = env::args(rt)?.skip(1).collect(heap)?;
+    let words: Vec<&str> = args.iter().map(|arg| arg.as_str()).collect(heap)?;
     match job_of(heap, &words)? {
         Job::Help => println!(rt; "{USAGE}")?,
         Job::Match { market } => match_orders(rt, market)?,
@@ -148,4 +154,13 @@ pub fn run_and_report(rt: &HostRuntime) -> Result<(), Fault> {
         let _ = eprintln!(rt; "hammerbuff: {fault}");
     }
     done
+}
+
+/// The whole program: each of the program crates is this one call, under arguments of its own, since the gate runs a
+/// program crate with one set of arguments.
+pub fn run_program(rt: &HostRuntime) -> ExitCode {
+    match run_and_report(rt) {
+        Ok(()) => ExitCode::SUCCESS,
+        Err(_) => ExitCode::FAILURE,
+    }
 }

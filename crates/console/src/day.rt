@@ -3,6 +3,7 @@ ghost use Rattle.std.specs.Prelude.{◌*◌, ◌≤◌};
 
 use market::interface::Market;
 use records::notices::Notice;
+use records::numbers::{CommandNumber, NoticeNumber};
 
 pub mod takes;
 
@@ -10,8 +11,9 @@ pub mod takes;
 #[derive(Drop)]
 pub struct Day<M: Market> {
     pub market: M,
+    // Lent whole to the market at each command, so that nothing allocates there.
     list: [Notice; 64],
-    commands: u64,
-    notices: u64,
-    ghost few: { (commands ≤ 1000000000000) × (notices ≤ 64 * commands) },
+    commands: CommandNumber,
+    notices: NoticeNumber,
+    ghost few: { (commands.0 ≤ 1000000000000) × (notices.0 ≤ 64 * commands.0) },
 }

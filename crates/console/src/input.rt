@@ -1,13 +1,10 @@
 //! Lines from bytes, in memory that does not grow.
-ghost use Rattle.std.specs.Prelude.{◌≤◌};
+use arrayvec::ArrayVec;
 
 pub mod fills;
 
-/// The bytes of a line so far: at most 255 are kept, and whether more came.
+/// The bytes of a line so far, of which it may have 255. A 256th is kept as the sign that more came.
 #[derive(Drop)]
 pub struct LineBuffer {
-    bytes: [u8; 255],
-    len: usize,
-    long: bool,
-    ghost within: { len ≤ 255 },
+    bytes: ArrayVec<u8, 256>,
 }

@@ -15,8 +15,8 @@ use outcomes::{Outcome, Tally, observe};
 use std::alloc::{AllocError, Global};
 
 const SCRIPT: [Operation; 4] = [
-    Operation::Write(0, [97; 512]),
-    Operation::Write(1, [98; 512]),
+    Operation::Write(0, [b'a'; 512]),
+    Operation::Write(1, [b'b'; 512]),
     Operation::Sync,
     Operation::Read(0),
 ];
@@ -98,8 +98,8 @@ impl Target {
 // Puts the old contents down.
 fn prepare(image: &mut [u8]) {
     let mut drive = Drive::direct(image);
-    let _ = drive.write(0, &[65; 512]);
-    let _ = drive.write(1, &[66; 512]);
+    let _ = drive.write(0, &[b'A'; 512]);
+    let _ = drive.write(1, &[b'B'; 512]);
 }
 
 fn try_cut(heap: Global, target: Target, fuse: Fuse) -> Result<Outcome, AllocError> {
@@ -145,19 +145,19 @@ fn row(
 
 fn run_all(rt: &HostRuntime, target: Target, tally: &mut Tally) -> anyhow::Result<()> {
     println!(rt; "{}", target.title())?;
-    let mut before = 0u32;
-    for call in target.calls() {
+    for (before, call) in (0u32..).zip(target.calls()) {
         let line = row(rt.alloc(), target, before, call, tally)?;
         println!(rt; "{line}")?;
-        before = before.saturating_add(1);
     }
     Ok(())
 }
 
 fn print_tally(rt: &HostRuntime, what: &str, tally: &Tally) -> anyhow::Result<()> {
-    let cuts = tally.cuts;
-    let mixtures = tally.mixtures;
-    let torn = tally.torn;
+    let Tally {
+        cuts,
+        mixtures,
+        torn,
+    } = *tally;
     println!(rt; "{what}: {cuts} cuts, {mixtures} mixtures, {torn} torn sectors")?;
     Ok(())
 }

@@ -1,27 +1,14 @@
 -- The laws of operations and of lists of them.
-use Rattle.std.proofs.Common.{◌≡◌, ℕ, ◌+◌, ◌<◌, ◌≤◌, ◌⊎◌, List, [], ◌∷◌, ◌++◌, length, get_or, take, drop, Ok, Err, sym, refl, ap, ◌∙◌, subst, inl, inr, ⊎_elim, arith}
-use Rattle.std.proofs.lemmas.List.{take-append-drop, take_more, drop_more, take_all}
+use Rattle.std.proofs.Common.{◌≡◌, ℕ, ◌+◌, ◌<◌, ◌⊎◌, List, [], ◌∷◌, ◌++◌, length, get_or, take, drop, Err, sym, refl, ap, ◌∙◌, subst, inl, inr, ⊎_elim, arith}
+use Rattle.std.proofs.lemmas.List.{take-append-drop, take_more, drop_more}
 use Rattle.device.specs.declared.fault.DeviceFault.TheVariants.{OutOfRange, Cut, Torn}
 use Rattle.device.specs.declared.fault.DeviceFault.{DeviceFault}
 use Rattle.device.specs.declared.run.Operation.{Operation}
 use Rattle.device.specs.declared.run.Operation.TheVariants.{Read, Write, Sync, Wake}
 use Rattle.device.specs.Meaning.{Meaning, Reading, ◌∈◌, Lawful}
-use Rattle.device.specs.Calls.{Answer, Kept, Moved, DidRead, DidWrite}
-use Rattle.device.specs.Runs.{Performed, CutBy, DidPerform, answer_unless_cut, asks, Ran, CutIn, DidRun, Adds, Grown}
-use Rattle.device.specs.Laws.{OnlyWritesAdd, OneContentEach, RunsGrow, SettledLasts, RunsJoin}
-
--- what a call did, as an operation
-pub read_performs : (m n : Meaning) (at : ℕ) (old : List ℕ) (r : Answer) (new : List ℕ) → DidRead m at old r new n → DidPerform m (Read at) (answer_unless_cut r) n
-read_performs m n at old (Ok u) new d = (λ h. d.was_lit, d.same)
-read_performs m n at old (Err (OutOfRange s)) new d = (λ h. let k = d.1 in absurd (omega arith), d.2)
-read_performs m n at old (Err (Cut s)) new d = (d.0, (d.1, d.2))
-read_performs m n at old (Err (Torn s)) new d = (λ h. d.1.was_lit, d.1.same)
-
-pub write_performs : (m n : Meaning) (at : ℕ) (new : List ℕ) (r : Answer) → DidWrite m at new r n → DidPerform m (Write at new) (answer_unless_cut r) n
-write_performs m n at new (Ok u) d = inl d
-write_performs m n at new (Err (OutOfRange s)) d = inr (d.1, d.2)
-write_performs m n at new (Err (Cut s)) d = (d.0, (d.1, d.2))
-write_performs m n at new (Err (Torn s)) d = absurd d
+use Rattle.device.specs.Calls.{Kept, Moved}
+use Rattle.device.specs.Runs.{Performed, CutBy, DidPerform, asks, Ran, CutIn, DidRun, Adds, Grown}
+use Rattle.device.specs.Laws.{RunsGrow, SettledLasts, RunsJoin}
 
 -- no set gains but by a write to its own sector
 abbrev OnlyAdds : Operation → Meaning → Meaning → Type 0
@@ -46,13 +33,6 @@ cut_adds (Write at new) m n c = (c.1.moved.size, c.1.moved.gains)
 cut_adds Sync m n c = moved Sync m n c.moved
 cut_adds Wake m n c = absurd c
 
-pub only_writes_add : OnlyWritesAdd
-only_writes_add o m n (inl p) = performed_adds o m n p
-only_writes_add o m n (inr c) = cut_adds o m n c
-
-pub one_content_each : OneContentEach
-one_content_each m n y s h x i = let e = y.size in y.only s (omega arith) x i ∙ sym (y.reads s (omega arith))
-
 -- one operation and then a list
 grown_more : (o : Operation) (os : List Operation) (m k n : Meaning) → OnlyAdds o m k → Grown k os n → Grown m (o ∷ os) n
 grown_more o os m k n a g =
@@ -62,7 +42,7 @@ grown_more o os m k n a g =
       gains = λ s h x i. ⊎_elim (λ j. ⊎_elim inl (λ q. inr (inl q)) (a.1 s h x j)) (λ q. inr (inr q)) (g.gains s (omega arith) x i);
     }
 
-ran_grows : (os : List Operation) (m n : Meaning) → Ran m os n → Grown m os n
+pub ran_grows : (os : List Operation) (m n : Meaning) → Ran m os n → Grown m os n
 ran_grows [] m n e = record { size = ap (λ (k : Meaning). k.size) e; gains = λ s h x i. inl (subst (λ (k : Meaning). x ∈ k.may s) e i) }
 ran_grows (o ∷ os) m n (k, l, p, r) = grown_more o os m k n (performed_adds o m k p) (ran_grows os k n r)
 
@@ -116,10 +96,3 @@ pub stopped : (os : List Operation) (i : ℕ) (d : Operation) (m k n : Meaning) 
 stopped os i d m k n (OutOfRange t) h r p = absurd p
 stopped os i d m k n (Cut t) h r p = let c = cut_here os i d m k n t h r p in (c, cut_grows os m t n c)
 stopped os i d m k n (Torn t) h r p = absurd p
-
-pub finished : (os : List Operation) (i : ℕ) (m n : Meaning) → length os ≤ i → Ran m (take i os) n → Ran m os n × Grown m os n
-finished os i m n h r = let q = subst (λ (qs : List Operation). Ran m qs n) (take_all i os h) r in (q, ran_grows os m n q)
-
--- the same, of equal values
-pub performs_at : (o p : Operation) (r q : Answer) (m n : Meaning) → o ≡ p → r ≡ q → DidPerform m p q n → DidPerform m o r n
-performs_at o p r q m n e f d = subst (λ (z : Operation). DidPerform m z r n) (sym e) (subst (λ (z : Answer). DidPerform m p z n) (sym f) d)

@@ -1,6 +1,6 @@
 -- What each call of a device may do to its meaning: a relation of the meaning before, the arguments, the answer and the
 -- meaning after, with a clause for each answer (⊥ where an answer never comes). Assumes nothing.
-use Rattle.std.specs.Prelude.{◌≡◌, ℕ, ◌<◌, ◌≤◌, true, false, ◌⊎◌, List, Ok, Err, Result, ◌≢◌}
+use Rattle.std.specs.Prelude.{◌≡◌, ℕ, ◌<◌, ◌≤◌, true, false, ◌⊎◌, List, Some, None, Ok, Err, Option, Result, ◌≢◌}
 use Rattle.device.specs.Meaning.{Meaning, Reading, bytes, torn, ◌∈◌}
 use Rattle.device.specs.declared.fault.DeviceFault.{DeviceFault}
 use Rattle.device.specs.declared.fault.DeviceFault.TheVariants.{OutOfRange, Cut, Torn}
@@ -50,6 +50,14 @@ DidRead before at old (Ok _) new after = Filled before at new after
 DidRead before at old (Err (OutOfRange s)) new after = (s ≡ at) × (before.size ≤ at) × (after ≡ before) × (new ≡ old)
 DidRead before at old (Err (Cut s)) new after = (s ≡ at) × (at < before.size) × WasCut before (Kept before) after × (new ≡ old)
 DidRead before at old (Err (Torn s)) new after = (s ≡ at) × FoundTorn before at after × (new ≡ old)
+
+-- a read that asks for the whole sector: its bytes, or none where it is torn, and any other fault as the read tells it
+abbrev pub DidReadWhole : (before : Meaning) (at : ℕ) → Result (Option (List ℕ)) DeviceFault → (after : Meaning) → Type 0
+DidReadWhole before at (Ok (Some b)) after = Filled before at b after
+DidReadWhole before at (Ok None) after = FoundTorn before at after
+DidReadWhole before at (Err (OutOfRange s)) after = (s ≡ at) × (before.size ≤ at) × (after ≡ before)
+DidReadWhole before at (Err (Cut s)) after = (s ≡ at) × (at < before.size) × WasCut before (Kept before) after
+DidReadWhole before at (Err (Torn s)) after = ⊥
 
 -- a write of `new` to the sector `at`: it reads as that, its set gains at most that and torn, and no other changes or gains
 pub record Written (before : Meaning) (at : ℕ) (new : List ℕ) (after : Meaning) : Type 0 where

@@ -14,7 +14,7 @@ pub enum DeviceFault {
 }
 
 impl DeviceFault {
-    /// 14, 15 or 16.
+    /// 14, 15 or 16, as the reasons are numbered. A match: variants that carry a sector have no discriminant of their own.
     pub fn number(self) -> u8
         ensures { result ≡ number self }
     {
@@ -30,9 +30,7 @@ impl DeviceFault {
         ensures { result ≡ asked self }
     {
         match self {
-            DeviceFault::OutOfRange(s) => s,
-            DeviceFault::Cut(s) => s,
-            DeviceFault::Torn(s) => s,
+            DeviceFault::OutOfRange(s) | DeviceFault::Cut(s) | DeviceFault::Torn(s) => s,
         }
     }
 

@@ -5,8 +5,9 @@
 //! ghost member `meaning`; each call's contract is one relation of the meaning before, the arguments, the answer and the
 //! meaning after (specs/Calls). Code that is generic over `Device` is proved once for every device.
 //!
-//! Proved: `Offset` keeps the meaning over any device; `run` performs a list of operations in order until one is cut;
-//! the laws that users lean on (specs/Laws) hold of every device. Nothing is trusted but the toolchain.
+//! Proved: `Offset` keeps the meaning over any device; `read_whole` tells a torn sector from a fault; `run` performs a list
+//! of operations in order until one is cut; the laws that users lean on (specs/Laws) hold of every device. Nothing is
+//! trusted but the toolchain.
 #![tactic(auto)]
 
 ghost use Rattle.std.specs.Prelude.{◌≡◌, ℕ, ◌<◌, ◌≤◌};
@@ -14,9 +15,11 @@ ghost use Rattle.device.specs.Calls.{DidRead, DidSync, DidWrite, Woken};
 ghost use Rattle.device.specs.Meaning.{Lawful, Meaning};
 
 pub use fault::DeviceFault;
+pub use read::read_whole;
 
 pub mod fault;
 pub mod offset;
+pub mod read;
 pub mod run;
 
 /// The bytes of a sector.
@@ -30,6 +33,7 @@ pub trait Device {
 
     // The memory that the device stands on, where that is lent. Every call leaves it: what a proof needs to tell the owner
     // of lent bytes what they hold when the device is gone.
+    // (`kept` relates two moments, which no type can hold: each call says it.)
     ghost Lender: { Type 0 };
 
     ghost lender: { Self → Lender };

@@ -22,6 +22,8 @@ impl<D> Offset<D> {
     }
 }
 
+// The meaning and the lender are written out in each clause: a model's value cannot name the type of the lender, which the
+// clauses need beside it.
 impl<D: Device> Device for Offset<D> {
     ghost meaning = { λ o. shifted o.base (D.Device.meaning o.device) };
 
@@ -45,13 +47,12 @@ impl<D: Device> Device for Offset<D> {
         ensures own { DidRead (D.Device.meaning self.old.device) (self.old.base + sector) buffer.old (told_below (self.old.base + sector) result) buffer.new (D.Device.meaning self.new.device) }
         ensures base { self.new.base ≡ self.old.base }
     {
-        if sector >= self.device.size().saturating_sub(self.base) {
+        if sector >= self.size() {
             return Err(DeviceFault::OutOfRange(sector));
         }
-        match self.device.read(self.base + sector, buffer) {
-            Ok(()) => Ok(()),
-            Err(fault) => Err(fault.told_of(sector)),
-        }
+        self.device
+            .read(self.base + sector, buffer)
+            .map_err(|fault| fault.told_of(sector))
     }
 
     fn write(&mut self, sector: usize, bytes: &Sector) -> Result<(), DeviceFault>
@@ -60,13 +61,12 @@ impl<D: Device> Device for Offset<D> {
         ensures own { DidWrite (D.Device.meaning self.old.device) (self.old.base + sector) bytes.now (told_below (self.old.base + sector) result) (D.Device.meaning self.new.device) }
         ensures base { self.new.base ≡ self.old.base }
     {
-        if sector >= self.device.size().saturating_sub(self.base) {
+        if sector >= self.size() {
             return Err(DeviceFault::OutOfRange(sector));
         }
-        match self.device.write(self.base + sector, bytes) {
-            Ok(()) => Ok(()),
-            Err(fault) => Err(fault.told_of(sector)),
-        }
+        self.device
+            .write(self.base + sector, bytes)
+            .map_err(|fault| fault.told_of(sector))
     }
 
     fn sync(&mut self) -> Result<(), DeviceFault>

@@ -19,12 +19,8 @@ fn unless_cut(answer: Result<(), DeviceFault>) -> Result<(), DeviceFault>
     ensures { result ≡ answer_unless_cut answer }
 {
     match answer {
-        Ok(()) => Ok(()),
-        Err(fault) => match fault {
-            DeviceFault::OutOfRange(_) => Ok(()),
-            DeviceFault::Cut(_) => Err(fault),
-            DeviceFault::Torn(_) => Ok(()),
-        },
+        Err(fault @ DeviceFault::Cut(_)) => Err(fault),
+        _ => Ok(()),
     }
 }
 
@@ -60,12 +56,10 @@ pub fn run<D: Device>(device: &mut D, script: &[Operation]) -> Result<(), Device
 }
 
 /// The laws that users of a device lean on.
-pub fn laws_hold() -> u8
+pub fn laws_hold()
     ensures adds { OnlyWritesAdd }
     ensures syncs { OneContentEach }
     ensures runs { RunsGrow }
     ensures settled { SettledLasts }
     ensures joins { RunsJoin }
-{
-    0
-}
+{}

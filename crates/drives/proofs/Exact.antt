@@ -11,9 +11,7 @@ use Rattle.image.specs.declared.fuse.Fuse.{Fuse}
 use Rattle.image.specs.declared.fuse.Plan.{Plan}
 use Rattle.image.specs.declared.pending.Pending.{Pending}
 use Rattle.image.proofs.Meanings.{admitted, emptied as all-down, cut_settled, cut_settled_write, cut_dark, cut_dark_write, woken, seen_inside}
-use Rattle.drives.specs.Drives.{State, meaning_of, gate_of, gate_at, by_plan, cut_off, ReadBy, DriveRead, WriteBy, DriveWrite, SyncBy, DriveSync, read_answer, newest, roused}
-use Rattle.drives.specs.declared.gate.Gate.{Gate}
-use Rattle.drives.specs.declared.gate.Gate.TheVariants.{Past, Dark, Blown, Through}
+use Rattle.drives.specs.Drives.{State, Gate, Past, Dark, Blown, Through, meaning_of, gate_of, gate_at, by_plan, cut_off, ReadBy, DriveRead, WriteBy, DriveWrite, SyncBy, DriveSync, read_answer, newest, roused}
 
 -- what is known of a call by how far it came
 abbrev pub Came : Gate → Bool → Bool → Type 0

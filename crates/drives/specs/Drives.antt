@@ -11,8 +11,6 @@ use Rattle.image.specs.declared.fuse.Plan.{Plan}
 use Rattle.image.specs.declared.pending.Pending.{Pending}
 use Rattle.image.proofs.Meanings.{meant_lawful}
 use Rattle.drives.specs.declared.drive.Drive.{Drive}
-use Rattle.drives.specs.declared.gate.Gate.{Gate}
-use Rattle.drives.specs.declared.gate.Gate.TheVariants.{Past, Dark, Blown, Through}
 
 pub record State : Type 0 where
   pub image : List ℕ
@@ -30,8 +28,14 @@ meaning_of d = meant d.image d.waiting d.lit
 pub meaning_lawful : (d : State) → Lawful (meaning_of d)
 meaning_lawful d = meant_lawful d.image d.waiting d.lit
 
--- how far a call comes, the first that fits: it asks a sector at or past the size; the drive is dark; the fuse blows; else
--- it goes through. Only in the last two does the fuse count it
+-- how far a call comes, the first that fits: it asks a sector at or past the size; the drive is dark; the fuse blows, by its
+-- plan; else it goes through. Only in the last two does the fuse count it
+pub data Gate : Type 0 where
+  Past : Gate
+  Dark : Gate
+  Blown : Plan → Gate
+  Through : Gate
+
 abbrev pub by_plan : Option Plan → Gate
 by_plan None = Through
 by_plan (Some plan) = Blown plan
@@ -40,12 +44,6 @@ abbrev pub gate_of : Bool → Bool → Option Fuse → Gate
 gate_of false lit fuse = Past
 gate_of true false fuse = Dark
 gate_of true true fuse = by_plan (cutting fuse)
-
-abbrev pub ticked : Gate → Option Fuse → Option Fuse
-ticked Past fuse = fuse
-ticked Dark fuse = fuse
-ticked (Blown plan) fuse = counted fuse
-ticked Through fuse = counted fuse
 
 abbrev pub gate_at : State → ℕ → Gate
 gate_at d at = gate_of (nat_lt at (size_of d.image)) d.lit d.fuse
@@ -57,6 +55,13 @@ cut_off plan course d = record { image = settled plan d.image (d.waiting ++ cour
 -- one call less to go
 abbrev pub ticks : State → State
 ticks d = record { image = d.image; waiting = d.waiting; lit = d.lit; fuse = counted d.fuse }
+
+-- a call that asks the sector `at`, with the write in course, if there is one: it is stopped, or the fuse has counted it
+abbrev pub PassedBy : Gate → State → ℕ → List Pending → Answer → State → Type 0
+PassedBy Past d at course r e = (r ≡ Err (OutOfRange at)) × (e ≡ d)
+PassedBy Dark d at course r e = (r ≡ Err (Cut at)) × (e ≡ d)
+PassedBy (Blown plan) d at course r e = (r ≡ Err (Cut at)) × (e ≡ cut_off plan course d)
+PassedBy Through d at course r e = (r ≡ Ok tt) × (e ≡ ticks d)
 
 -- a read of the sector `at`: the newest waiting write of it, or else the image
 abbrev pub newest : State → ℕ → Reading

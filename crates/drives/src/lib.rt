@@ -11,6 +11,5 @@ pub use drive::{Direct, Drive, WriteBack};
 pub use schedule::Schedule;
 
 pub mod drive;
-pub mod gate;
 pub mod powered;
 pub mod schedule;

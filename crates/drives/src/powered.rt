@@ -1,15 +1,13 @@
 //! The calls of a drive.
-ghost use Rattle.std.specs.Prelude.{◌≡◌, false, [], ◌++◌, Some};
+ghost use Rattle.std.specs.Prelude.{◌≡◌, Some};
 ghost use Rattle.device.specs.Calls.{DidRead, DidSync, DidWrite, Woken};
-ghost use Rattle.drives.specs.Drives.{DriveRead, DriveSync, DriveWrite, fused, gate_of, meaning_lawful, meaning_of, roused, state, ticked};
-ghost use Rattle.image.specs.Waiting.{settled};
+ghost use Rattle.drives.specs.Drives.{DriveRead, DriveSync, DriveWrite, PassedBy, fused, gate_of, meaning_lawful, meaning_of, roused, state};
 ghost use Rattle.std.specs.Option.{option_to_list};
 
 use crate::Drive;
-use crate::gate::Gate;
 use device::{Device, DeviceFault, Sector};
 use image::fuse::spend;
-use image::{Fuse, Pending, Plan};
+use image::{Fuse, Pending};
 use stores::Store;
 
 impl<S: Store> Drive<S> {
@@ -22,106 +20,35 @@ impl<S: Store> Drive<S> {
         self.fuse = Some(fuse);
     }
 
-    // How far a call comes; the fuse counts it.
-    fn pass(&mut self, within: bool) -> Gate
-        ensures gate { result ≡ gate_of within self.old.lit self.old.fuse }
-        ensures fuse { self.new.fuse ≡ ticked result self.old.fuse }
-        ensures rest { (self.new.store ≡ self.old.store) × (self.new.lit ≡ self.old.lit) }
+    // Lets a call through, and the fuse counts it. A call past the size or in the dark is stopped; so is one that the fuse
+    // cuts, and then the power goes, by the fuse's plan, with the write in course. A sync has no
+    // sector: it is within, and is told as 0.
+    fn pass(
+        &mut self,
+        sector: usize,
+        within: bool,
+        course: Option<Pending>,
+    ) -> Result<(), DeviceFault>
+        ensures own { PassedBy (gate_of within self.old.lit self.old.fuse) (state S.Store.image S.Store.waiting self.old) sector (option_to_list course) result (state S.Store.image S.Store.waiting self.new) }
+        ensures kept { S.Store.lender self.new.store ≡ S.Store.lender self.old.store }
     {
         if !within {
-            return Gate::Past;
+            return Err(DeviceFault::OutOfRange(sector));
         }
         if !self.lit {
-            return Gate::Dark;
+            return Err(DeviceFault::Cut(sector));
         }
-        match spend(&mut self.fuse) {
-            Some(plan) => Gate::Blown(plan),
-            None => Gate::Through,
+        if let Some(plan) = spend(&mut self.fuse) {
+            self.store.settle(plan, course);
+            self.lit = false;
+            return Err(DeviceFault::Cut(sector));
         }
-    }
-
-    // The power goes, by a plan.
-    fn fall(&mut self, plan: Plan, course: Option<Pending>)
-        ensures image { S.Store.image self.new.store ≡ settled plan (S.Store.image self.old.store) (S.Store.waiting self.old.store ++ option_to_list course) }
-        ensures waits { S.Store.waiting self.new.store ≡ [] }
-        ensures power { (self.new.lit ≡ false) × (self.new.fuse ≡ self.old.fuse) }
-        ensures kept { S.Store.lender self.new.store ≡ S.Store.lender self.old.store }
-    {
-        self.store.settle(plan, course);
-        self.lit = false;
-    }
-
-    // The calls, to the byte. That they keep the meaning of a device is shown of the definitions alone.
-    fn read_exactly(&mut self, sector: usize, buffer: &mut Sector) -> Result<(), DeviceFault>
-        ensures own { DriveRead (state S.Store.image S.Store.waiting self.old) sector buffer.old result buffer.new (state S.Store.image S.Store.waiting self.new) }
-        ensures kept { S.Store.lender self.new.store ≡ S.Store.lender self.old.store }
-    {
-        let within = sector < self.store.count();
-        match self.pass(within) {
-            Gate::Past => Err(DeviceFault::OutOfRange(sector)),
-            Gate::Dark => Err(DeviceFault::Cut(sector)),
-            Gate::Blown(plan) => {
-                self.fall(plan, None);
-                Err(DeviceFault::Cut(sector))
-            }
-            Gate::Through => {
-                if self.store.find(sector, buffer) {
-                    Ok(())
-                } else {
-                    Err(DeviceFault::Torn(sector))
-                }
-            }
-        }
-    }
-
-    fn write_exactly(&mut self, write: Pending) -> Result<(), DeviceFault>
-        ensures own { DriveWrite S.Store.room (state S.Store.image S.Store.waiting self.old) write.sector write.bytes result (state S.Store.image S.Store.waiting self.new) }
-        ensures kept { S.Store.lender self.new.store ≡ S.Store.lender self.old.store }
-    {
-        let within = write.sector < self.store.count();
-        match self.pass(within) {
-            Gate::Past => Err(DeviceFault::OutOfRange(write.sector)),
-            Gate::Dark => Err(DeviceFault::Cut(write.sector)),
-            Gate::Blown(plan) => {
-                self.fall(plan, Some(write));
-                Err(DeviceFault::Cut(write.sector))
-            }
-            Gate::Through => {
-                self.store.put(write);
-                Ok(())
-            }
-        }
-    }
-
-    fn sync_exactly(&mut self) -> Result<(), DeviceFault>
-        ensures own { DriveSync (state S.Store.image S.Store.waiting self.old) result (state S.Store.image S.Store.waiting self.new) }
-        ensures kept { S.Store.lender self.new.store ≡ S.Store.lender self.old.store }
-    {
-        match self.pass(true) {
-            Gate::Past => unreachable(),
-            Gate::Dark => Err(DeviceFault::Cut(0)),
-            Gate::Blown(plan) => {
-                self.fall(plan, None);
-                Err(DeviceFault::Cut(0))
-            }
-            Gate::Through => {
-                self.store.flush();
-                Ok(())
-            }
-        }
-    }
-
-    fn rouse(&mut self)
-        ensures own { (state S.Store.image S.Store.waiting self.new) ≡ roused (state S.Store.image S.Store.waiting self.old) }
-        ensures kept { S.Store.lender self.new.store ≡ S.Store.lender self.old.store }
-    {
-        if !self.lit {
-            self.lit = true;
-            self.fuse = None;
-        }
+        Ok(())
     }
 }
 
+// The state is written out in each clause: a model's value cannot name the type of the lender, which the clauses need
+// beside it.
 impl<S: Store> Device for Drive<S> {
     ghost meaning = { λ d. meaning_of (state S.Store.image S.Store.waiting d) };
 
@@ -144,7 +71,10 @@ impl<S: Store> Device for Drive<S> {
         ensures own { DriveRead (state S.Store.image S.Store.waiting self.old) sector buffer.old result buffer.new (state S.Store.image S.Store.waiting self.new) }
         ensures kept { S.Store.lender self.new.store ≡ S.Store.lender self.old.store }
     {
-        self.read_exactly(sector, buffer)
+        let within = sector < self.store.count();
+        self.pass(sector, within, None)?;
+        *buffer = self.store.find(sector).ok_or(DeviceFault::Torn(sector))?;
+        Ok(())
     }
 
     fn write(&mut self, sector: usize, bytes: &Sector) -> Result<(), DeviceFault>
@@ -152,10 +82,14 @@ impl<S: Store> Device for Drive<S> {
         ensures own { DriveWrite S.Store.room (state S.Store.image S.Store.waiting self.old) sector bytes.now result (state S.Store.image S.Store.waiting self.new) }
         ensures kept { S.Store.lender self.new.store ≡ S.Store.lender self.old.store }
     {
-        self.write_exactly(Pending {
+        let write = Pending {
             sector,
             bytes: *bytes,
-        })
+        };
+        let within = sector < self.store.count();
+        self.pass(sector, within, Some(write))?;
+        self.store.put(write);
+        Ok(())
     }
 
     fn sync(&mut self) -> Result<(), DeviceFault>
@@ -163,7 +97,9 @@ impl<S: Store> Device for Drive<S> {
         ensures own { DriveSync (state S.Store.image S.Store.waiting self.old) result (state S.Store.image S.Store.waiting self.new) }
         ensures kept { S.Store.lender self.new.store ≡ S.Store.lender self.old.store }
     {
-        self.sync_exactly()
+        self.pass(0, true, None)?;
+        self.store.flush();
+        Ok(())
     }
 
     fn wake(&mut self)
@@ -171,6 +107,9 @@ impl<S: Store> Device for Drive<S> {
         ensures own { (state S.Store.image S.Store.waiting self.new) ≡ roused (state S.Store.image S.Store.waiting self.old) }
         ensures kept { S.Store.lender self.new.store ≡ S.Store.lender self.old.store }
     {
-        self.rouse();
+        if !self.lit {
+            self.lit = true;
+            self.fuse = None;
+        }
     }
 }

@@ -10,6 +10,8 @@ ghost use Rattle.either_device.specs.Eithers.{lent_by, meant_by, meant_lawful};
 use device::{Device, DeviceFault, Sector};
 
 /// A device that is of one of two types. Each call is passed on to the device that is held.
+// A type of its own: an impl for the kit's `either::Either` would have to stand beside `Device`, whose crate would then take
+// that library for all devices.
 #[derive(Drop)]
 pub enum Either<A, B> {
     First(A),

@@ -1,4 +1,3 @@
 pub mod Cutting
-pub mod Goods
 pub mod Opening
 pub mod Refusing

@@ -3,6 +3,7 @@ ghost use Rattle.std.specs.Prelude.{◌≡◌, suc, ◌+◌, ◌*◌, ◌≤◌,
 ghost use Rattle.protocol.specs.Steps.{world_of, taking, SetsUp, Stage, Write, Sync, Deliver, Shelve, Snapshot, Restart, Open, Replay};
 ghost use Rattle.exchange.specs.Answers.{ticket_said, sync_said, replay_said, deliver_said, TicketBack, ReceiptBack, SyncList, ReplayList};
 ghost use Rattle.exchange.specs.Counting.{one_more, Applied};
+ghost use Rattle.protocol.specs.Faults.{of_journal};
 ghost use Rattle.protocol.specs.Worlds.{rules_of, page_head, header_for};
 ghost use Rattle.records.specs.Headers.{header_fits, counts_good};
 ghost use Rattle.protocol.specs.declared.phases.Phase.TheVariants.{Live, Replaying};
@@ -21,7 +22,7 @@ use journal_io::loading::open_snapshot;
 use journal_io::paging::{put_page, read_page};
 use journal_io::writing::{perform_all, put_first, put_snapshot};
 use market::interface::Market;
-use protocol::faults::ExchangeFault;
+use protocol::faults::{ExchangeFault, JournalFault};
 use protocol::phases::Phase;
 use protocol::tokens::{ReceiptNumbers, TicketNumbers};
 use records::commands::Command;
@@ -51,6 +52,7 @@ fn header_of(
     }
 }
 
+// `kept` says in each call what becomes of the device's lender: it relates two moments, which no type can hold.
 impl<M: Market, D: Device> Exchange<M, D> {
     /// Resets the exchange, and touches no device.
     pub fn restart(&mut self)
@@ -66,6 +68,16 @@ impl<M: Market, D: Device> Exchange<M, D> {
         self.covered = PageNumber(0);
         self.slot = Slot::Zero;
         self.market.fresh();
+    }
+
+    // A fault of the journal resets the exchange, and is then its own.
+    fn reset_by(&mut self, fault: JournalFault) -> ExchangeFault
+        ensures reset { Called M.Market D.Device self.old Restart self.new }
+        ensures fault { result ≡ of_journal fault }
+        ensures kept { self.new.device ≡ self.old.device }
+    {
+        self.restart();
+        fault.into()
     }
 
     /// Stages one command, given as bytes, and answers the number that it would get.
@@ -149,10 +161,7 @@ impl<M: Market, D: Device> Exchange<M, D> {
                     },
                 })
             }
-            Err(fault) => {
-                self.restart();
-                Err(fault.into())
-            }
+            Err(fault) => Err(self.reset_by(fault)),
         }
     }
 
@@ -184,10 +193,7 @@ impl<M: Market, D: Device> Exchange<M, D> {
                 let Ticket { numbers: _ } = ticket;
                 match perform_all(&mut self.device, &[Operation::Sync]) {
                     Ok(()) => Ok(self.apply_staged(next, list)),
-                    Err(fault) => {
-                        self.restart();
-                        Err(SyncRefusal::Spent(fault.into()))
-                    }
+                    Err(fault) => Err(SyncRefusal::Spent(self.reset_by(fault))),
                 }
             }
             Err(reason) => match reason {
@@ -217,10 +223,7 @@ impl<M: Market, D: Device> Exchange<M, D> {
                 self.slot = slot;
                 Ok(())
             }
-            Err(fault) => {
-                self.restart();
-                Err(fault.into())
-            }
+            Err(fault) => Err(self.reset_by(fault)),
         }
     }
 
@@ -239,10 +242,7 @@ impl<M: Market, D: Device> Exchange<M, D> {
                 self.phase = way.next;
                 Ok(())
             }
-            Err(fault) => {
-                self.restart();
-                Err(fault.into())
-            }
+            Err(fault) => Err(self.reset_by(fault)),
         }
     }
 
@@ -275,14 +275,12 @@ impl<M: Market, D: Device> Exchange<M, D> {
                 self.take_up(way.next, first);
                 Ok(first.header.page)
             }
-            Err(fault) => {
-                self.restart();
-                Err(fault.into())
-            }
+            Err(fault) => Err(self.reset_by(fault)),
         }
     }
 
-    // Applies the commands of a page that was read, and counts it.
+    // Applies the commands of a page that was read, and counts it. (No one text with `apply_staged`: the staged commands could
+    // not be lent from the exchange to a call that changes it.)
     fn apply_read(&mut self, commands: &[Command], list: &mut [Notice]) -> Receipt
         requires some { 1 ≤ length commands.now }
         requires few { self.old.commands.0 + length commands.now ≤ 1000000000000 }
@@ -314,10 +312,7 @@ impl<M: Market, D: Device> Exchange<M, D> {
                     Ok(None)
                 }
             },
-            Err(fault) => {
-                self.restart();
-                Err(fault.into())
-            }
+            Err(fault) => Err(self.reset_by(fault)),
         }
     }
 
@@ -330,7 +325,7 @@ impl<M: Market, D: Device> Exchange<M, D> {
         match self.judge_deliver(receipt.numbers) {
             Ok(last) => {
                 let Receipt { numbers: _ } = receipt;
-                if self.mark.0 < last.0 {
+                if self.mark < last {
                     self.mark = last;
                 }
                 Ok(())

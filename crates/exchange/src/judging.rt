@@ -58,10 +58,8 @@ impl<M: Market, D: Device> Exchange<M, D> {
         if self.covered.0 + (size.saturating_sub(8) as u64) < self.pages.0 + 1 {
             return Err(Refusal::JournalFull);
         }
-        match Layout::new(size) {
-            Some(layout) => Ok(Way { next, layout }),
-            None => Err(Refusal::PastTheEnd),
-        }
+        let layout = Layout::new(size).ok_or(Refusal::PastTheEnd)?;
+        Ok(Way { next, layout })
     }
 
     // The phase that a sync leads to.
@@ -74,7 +72,7 @@ impl<M: Market, D: Device> Exchange<M, D> {
             return Err(Refusal::ShortList);
         }
         let numbers = ticket.numbers;
-        if numbers.house.0 != self.house.0 || numbers.page.0 != self.pages.0 + 1 {
+        if numbers.house != self.house || numbers.page.0 != self.pages.0 + 1 {
             return Err(Refusal::WrongTicket);
         }
         Ok(next)
@@ -85,13 +83,11 @@ impl<M: Market, D: Device> Exchange<M, D> {
         ensures judged { Judged (deliver_reasons (world_of (rules_of M.Market) (view M.Market D.Device self.now)) (view M.Market D.Device self.now) numbers) result }
         ensures allowed { IfOk result (λ n. (n.0 ≡ last_notice numbers) × (n.0 ≤ self.now.notices.0)) }
     {
-        if numbers.house.0 != self.house.0 || numbers.notice.0 > self.mark.0 + 1 {
+        if numbers.house != self.house || numbers.notice.0 > self.mark.0 + 1 {
             return Err(Refusal::WrongReceipt);
         }
-        let Some(sum) = numbers.notice.0.checked_add(numbers.notices) else {
-            return Err(Refusal::WrongReceipt);
-        };
-        let last = sum.saturating_sub(1);
+        let sum = numbers.notice.0.checked_add(numbers.notices);
+        let last = sum.ok_or(Refusal::WrongReceipt)?.saturating_sub(1);
         if last > self.notices.0 {
             return Err(Refusal::WrongReceipt);
         }
@@ -104,16 +100,14 @@ impl<M: Market, D: Device> Exchange<M, D> {
         ensures allowed { IfOk result (λ p. (p ≡ Live) × (self.now.phase ≡ Live)) }
     {
         let next = next_phase(self.phase, Asked::Snapshot)?;
-        if self.covered.0 == self.pages.0 {
+        if self.covered == self.pages {
             return Err(Refusal::AlreadyCovered);
         }
-        if self.mark.0 < self.notices.0 {
+        if self.mark < self.notices {
             return Err(Refusal::Undelivered);
         }
-        match Layout::new(self.device.size()) {
-            Some(_) => Ok(next),
-            None => Err(Refusal::PastTheEnd),
-        }
+        Layout::new(self.device.size()).ok_or(Refusal::PastTheEnd)?;
+        Ok(next)
     }
 
     // What set up and open ask alike.
@@ -125,13 +119,9 @@ impl<M: Market, D: Device> Exchange<M, D> {
         if self.house.0 == 0 {
             return Err(Refusal::NoHouse);
         }
-        match Layout::new(self.device.size()) {
-            Some(layout) => {
-                let next = next_phase(self.phase, asked)?;
-                Ok(Way { next, layout })
-            }
-            None => Err(Refusal::DeviceSize),
-        }
+        let layout = Layout::new(self.device.size()).ok_or(Refusal::DeviceSize)?;
+        let next = next_phase(self.phase, asked)?;
+        Ok(Way { next, layout })
     }
 
     pub(crate) fn judge_replay(&self, room: usize) -> Result<Way, Refusal>
@@ -142,9 +132,7 @@ impl<M: Market, D: Device> Exchange<M, D> {
         if room < 1024 {
             return Err(Refusal::ShortList);
         }
-        match Layout::new(self.device.size()) {
-            Some(layout) => Ok(Way { next, layout }),
-            None => Err(Refusal::PastTheEnd),
-        }
+        let layout = Layout::new(self.device.size()).ok_or(Refusal::PastTheEnd)?;
+        Ok(Way { next, layout })
     }
 }

@@ -5,17 +5,16 @@
 #![tactic(auto)]
 
 ghost use Rattle.std.specs.Prelude.{◌≡◌, [], ◌∷◌};
-ghost use Rattle.records.specs.Buffers.{written};
 ghost use Rattle.figures.specs.Figures.{Figures};
 
-use records::buffers::RecordBuffer;
+use records::buffers::Record;
 use records::commands::Command;
 
 /// Every worked figure holds of the definitions; the answer is the first of them, the record of a
 /// cross.
-pub fn figures_stand() -> RecordBuffer
+pub fn figures_stand() -> Record
     ensures figures { Figures }
-    ensures cross { written result ≡ 4 ∷ (0 ∷ (13 ∷ (0 ∷ []))) }
+    ensures cross { result ≡ 4 ∷ (0 ∷ (13 ∷ (0 ∷ []))) }
 {
     Command::Cross.encode()
 }
@@ -27,8 +26,8 @@ mod tests {
     use journal::layouts::Layout;
     use market::interface::Market;
     use records::commands::{Command, Side};
-    use records::notices::{Kind, Notice, Party};
-    use records::numbers::{CommandNumber, Lots, Member, NoticeNumber, PageNumber, Price};
+    use records::notices::{Kind, Notice};
+    use records::numbers::{CommandNumber, Lots, Member, PageNumber, Price};
     use std::test::Fail;
 
     fn enter(member: u32, side: Side, price: u32, lots: u32) -> Command {
@@ -41,18 +40,9 @@ mod tests {
     }
 
     fn blank() -> Notice {
-        let nobody = Party {
-            order: CommandNumber(0),
-            member: Member(0),
-        };
         Notice {
-            number: NoticeNumber(0),
-            command: CommandNumber(0),
             kind: Kind::Dropped,
-            a: nobody,
-            b: nobody,
-            price: Price(0),
-            lots: Lots(0),
+            ..Notice::default()
         }
     }
 

@@ -1,5 +1,6 @@
 -- Two receipts that were answered for one page are one.
-use Rattle.std.proofs.Common.{◌≡◌, List, [], ◌∷◌, ◌++◌, length, IfSome, Some, None, Option, sym, refl, ap, ◌∙◌, subst, arith}
+use Rattle.std.proofs.Common.{◌≡◌, List, [], ◌∷◌, ◌++◌, length, IfSome, Some, None, Option, sym, refl, ap, ◌∙◌, subst, arith, Ok, Err, Result, rules}
+use Rattle.std.specs.Result.{result_ok}
 use mathlib.Core.List.Memᴰ
 use mathlib.Core.List.{Memᴰ, head-eq_of_cons-eq, tail-eq_of_cons-eq}
 use Rattle.records.specs.declared.commands.Command.{Command}
@@ -47,3 +48,8 @@ later_answered later h n (by_replay room a e m) = by_replay room a e (Memᴰ.app
 pub given_run : {P : Type 0} (Q : ReceiptNumbers → Type 0) (o : Option ReceiptNumbers) → IfSome o (λ n. P → Q n) → P → IfSome o Q
 given_run Q (Some n) f p = f p
 given_run Q None f p = tt
+
+-- a result that is some by `ok` is that one
+pub was_ok : {T E : Type 0} (r : Result T E) (x : T) → result_ok r ≡ Some x → r ≡ Ok x
+was_ok (Ok y) x h = search rules
+was_ok (Err e) x h = absurd (search rules)

@@ -18,7 +18,8 @@ use protocol::promises::promises_stand;
 use protocol::tokens::ReceiptNumbers;
 use records::notices::Notice;
 
-// Takes note of a receipt, and shelves it.
+// Takes note of a receipt, and shelves it. (Exchange and list are lent by whoever asks: a struct of both would be made anew for
+// each call.)
 fn note<M: Market, D: Device>(exchange: &mut Exchange<M, D>, receipt: Receipt) -> ReceiptNumbers
     ensures numbers { result ≡ receipt.numbers }
     ensures same { Called M.Market D.Device exchange.old (Shelve receipt.numbers) exchange.new }
@@ -68,16 +69,10 @@ fn first_receipt<M: Market, D: Device>(
 ) -> Option<ReceiptNumbers>
     ensures { IfSome result (λ n. Holds M.Market D.Device n exchange.new) }
 {
-    match exchange.set_up() {
-        Ok(()) => match exchange.stage(bytes) {
-            Ok(_) => match exchange.write() {
-                Ok(ticket) => sync_page(exchange, ticket, list),
-                Err(_) => None,
-            },
-            Err(_) => None,
-        },
-        Err(_) => None,
-    }
+    exchange.set_up().ok()?;
+    exchange.stage(bytes).ok()?;
+    let ticket = exchange.write().ok()?;
+    sync_page(exchange, ticket, list)
 }
 
 // Restarts the exchange, opens it, and replays one page; the receipt's numbers, if one is answered.
@@ -88,16 +83,9 @@ fn receipt_after<M: Market, D: Device>(
     ensures { IfSome result (λ n. GetsAgain M.Market D.Device exchange.old n exchange.new) }
 {
     exchange.restart();
-    match exchange.open() {
-        Ok(_) => match exchange.replay(list) {
-            Ok(found) => match found {
-                Some(receipt) => Some(note(exchange, receipt)),
-                None => None,
-            },
-            Err(_) => None,
-        },
-        Err(_) => None,
-    }
+    exchange.open().ok()?;
+    let receipt = exchange.replay(list).ok()??;
+    Some(note(exchange, receipt))
 }
 
 /// The receipt of a page, and the one that comes again for the page that is replayed after a restart.
@@ -116,7 +104,7 @@ pub fn ask_again<M: Market, D: Device>(
 ) -> Option<Twice>
     ensures { IfSome result (λ t. t.again.page ≡ t.held.page → t.again ≡ t.held) }
 {
-    let _ = promises_stand::<M>();
+    promises_stand::<M>();
     let held = first_receipt(exchange, bytes, list)?;
     let again = receipt_after(exchange, list)?;
     Some(Twice { held, again })

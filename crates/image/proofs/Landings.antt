@@ -1,6 +1,6 @@
 -- What becomes of one write: it is dropped, torn or put down.
-use Rattle.std.proofs.Common.{◌≡◌, ℕ, ◌*◌, ◌<◌, ◌≤◌, true, false, ltb, ◌⊎◌, List, length, set, sym, refl, ap, ◌∙◌, subst, inl, inr, ⊎_elim, ltb-true, le-ltb, lt-ltb, eq-eqb, eqb-true}
-use Rattle.std.proofs.lemmas.Bool.{and_from, and_parts, and_left, cases_eq, cases_Bool, cond-true, cond-false}
+use Rattle.std.proofs.Common.{◌≡◌, ℕ, ◌*◌, ◌<◌, true, ltb, ◌⊎◌, List, length, sym, refl, ap, ◌∙◌, subst, inl, inr, ⊎_elim, ltb-true, lt-ltb, eq-eqb, eqb-true}
+use Rattle.std.proofs.lemmas.Bool.{and_from, and_parts, cases_eq, cases_Bool, cond-true, cond-false}
 use Rattle.device.specs.Meaning.{Reading, bytes, torn}
 use Rattle.image.specs.Image.{size_of, reading, list_put_at}
 use Rattle.image.specs.Waiting.{whole, fits, put_down, landed}
@@ -9,30 +9,12 @@ use Rattle.image.specs.declared.fuse.Fate.TheVariants.{Dropped, Torn, Kept}
 use Rattle.image.specs.declared.pending.Pending.{Pending}
 use Rattle.image.proofs.Changes.{Changed, is_put, is_torn}
 
--- a write that fits, and one that lies past the image
+-- a write that fits
 test_fits : (xs : List ℕ) (p : Pending) → p.sector < size_of xs → length p.bytes ≡ 512 → fits xs p ≡ true
 test_fits xs p h l = and_from _ _ (lt-ltb p.sector (size_of xs) h) (eq-eqb (length p.bytes) 512 l)
 
-test_past : (xs : List ℕ) (p : Pending) → size_of xs ≤ p.sector → fits xs p ≡ false
-test_past xs p h = and_left _ _ (le-ltb p.sector (size_of xs) h)
-
 pub down_put : (xs : List ℕ) (p : Pending) → p.sector < size_of xs → length p.bytes ≡ 512 → put_down xs p ≡ list_put_at xs (p.sector * 513) p.bytes
 down_put xs p h l = cond-true (fits xs p) _ _ (test_fits xs p h l)
-
-pub down_past : (xs : List ℕ) (p : Pending) → size_of xs ≤ p.sector → put_down xs p ≡ xs
-down_past xs p h = cond-false (fits xs p) _ _ (test_past xs p h)
-
-pub landed_dropped : (xs : List ℕ) (p : Pending) → landed Dropped xs p ≡ xs
-landed_dropped xs p = refl
-
-pub landed_kept : (xs : List ℕ) (p : Pending) → landed Kept xs p ≡ put_down xs p
-landed_kept xs p = refl
-
-pub landed_torn : (xs : List ℕ) (p : Pending) → p.sector < size_of xs → length p.bytes ≡ 512 → landed Torn xs p ≡ set xs (p.sector * 513) 1
-landed_torn xs p h l = cond-true (fits xs p) _ _ (test_fits xs p h l)
-
-pub landed_torn_past : (xs : List ℕ) (p : Pending) → size_of xs ≤ p.sector → landed Torn xs p ≡ xs
-landed_torn_past xs p h = cond-false (fits xs p) _ _ (test_past xs p h)
 
 -- each sector reads as it did, or it is the write's and reads as its bytes or torn
 pub record Landed (xs : List ℕ) (p : Pending) (ys : List ℕ) : Type 0 where

@@ -1,12 +1,16 @@
 -- What happens to the meaning as writes wait, are put down, and are cut.
-use Rattle.std.proofs.Common.{◌≡◌, ℕ, ◌<◌, ◌≤◌, Bool, true, false, cond, ◌&&◌, ◌||◌, eqb, ltb, ◌⊎◌, List, [], ◌∷◌, ◌++◌, length, Some, None, Option, sym, refl, ap, ◌∙◌, subst, inl, inr, ⊎_elim, arith, eq-eqb, ne_eqb, eqb-true}
+use Rattle.std.proofs.Common.{◌≡◌, ℕ, ◌<◌, ◌≤◌, Bool, true, false, cond, ◌&&◌, ◌||◌, eqb, ltb, ◌⊎◌, List, [], ◌∷◌, ◌++◌, length, reverse, Some, None, Option, sym, refl, ap, ◌∙◌, subst, inl, inr, ⊎_elim, arith, eq-eqb, ne_eqb, eqb-true}
 use borrow.Author.Tests.{clash}
+use Rattle.std.specs.List.{find}
+use Rattle.std.specs.Option.{option_or}
+use Rattle.std.proofs.lemmas.List.{reverse-append}
+use Rattle.std.proofs.lemmas.List.Folds.{find-append}
 use Rattle.std.proofs.lemmas.Bool.{or_left, or_right, or_cases, and_from, and_parts, cases_eq, cases_Bool, cond-true, cond-false}
 use Rattle.device.specs.Meaning.{Meaning, Reading, bytes, torn, Lawful}
 use Rattle.device.specs.Calls.{Moved, WasCut, Written, Synced, Woken, Kept, Joined}
 use Rattle.image.specs.Image.{size_of, reading, seen, same}
 use Rattle.image.specs.Fuses.{fate, later}
-use Rattle.image.specs.Waiting.{whole, put_down, put_all, leaves, some_leaves, meant, landed, settled, over, staying, put_some, newest_from}
+use Rattle.image.specs.Waiting.{whole, put_down, put_all, leaves, some_leaves, meant, landed, settled, over, staying, put_some, newest_of}
 use Rattle.image.specs.declared.fuse.Plan.{Plan}
 use Rattle.image.specs.declared.pending.Pending.{Pending}
 use Rattle.image.proofs.Changes.{Changed, in_only, only_is, reads_whole, is_put, seen_within, seen_past}
@@ -197,32 +201,36 @@ here xs p s e h l =
     let k : p.sector < size_of xs = subst (λ (n : ℕ). n < size_of xs) (sym e) h in
     ap (reading (put_down xs p)) (sym e) ∙ ap (λ (ys : List ℕ). reading ys p.sector) (down_put xs p k l) ∙ (is_put xs p.sector p.bytes k l).here
 
-newest_some : (xs : List ℕ) (ps : List Pending) (s : ℕ) (o : Option Pending) → s < size_of xs → ((q : Pending) → o ≡ Some q → length q.bytes ≡ 512 → reading xs s ≡ bytes q.bytes) → (p : Pending) → newest_from o s ps ≡ Some p → length p.bytes ≡ 512 → reading (put_all xs ps) s ≡ bytes p.bytes
-newest_some xs [] s o h f p e l = f p e l
-newest_some xs (q ∷ ps) s o h f p e l =
-    newest_some (put_down xs q) ps s (cond (eqb q.sector s) (Some q) o) (subst (λ (n : ℕ). s < n) (sym (down_is xs q).size) h)
-    (λ r g k. elim (cases_eq q.sector s) [
-      | inl a ↦ let b : Some q ≡ Some r = sym (cond-true (eqb q.sector s) (Some q) o (eq-eqb q.sector s a)) ∙ g in
-          let m : q ≡ r = cc in
-          subst (λ (z : Pending). reading (put_down xs q) s ≡ bytes z.bytes) m (here xs q s a h (subst (λ (z : Pending). length z.bytes ≡ 512) (sym m) k))
-      | inr a ↦ other xs q s (λ z. a (sym z)) ∙ f r (sym (cond-false (eqb q.sector s) (Some q) o (ne_eqb q.sector s a)) ∙ g) k
-    ])
-    p e l
+-- the newest of a list is the newest of what follows the oldest, or else the oldest
+newest_more : (p : Pending) (ps : List Pending) (s : ℕ) → newest_of s (p ∷ ps) ≡ option_or (newest_of s ps) (cond (eqb p.sector s) (Some p) None)
+newest_more p ps s = ap (find (λ (q : Pending). eqb q.sector s)) (reverse-append (p ∷ []) ps) ∙ find-append (λ (q : Pending). eqb q.sector s) (reverse ps) (p ∷ [])
 
-some_stays : (q : Pending) (s : ℕ) (ps : List Pending) → newest_from (Some q) s ps ≡ None → ⊥
-some_stays q s [] e = let z : ◌≡◌ {A = ℕ} 0 1 = cc in omega arith
-some_stays q s (p ∷ ps) e =
-    elim (cases_Bool (eqb p.sector s)) [
-      | inl a ↦ some_stays p s ps (subst (λ (o : Option Pending). newest_from o s ps ≡ None) (cond-true (eqb p.sector s) (Some p) (Some q) a) e)
-      | inr a ↦ some_stays q s ps (subst (λ (o : Option Pending). newest_from o s ps ≡ None) (cond-false (eqb p.sector s) (Some p) (Some q) a) e)
-    ]
+or_none : (a b : Option Pending) → option_or a b ≡ None → (a ≡ None) × (b ≡ None)
+or_none None b e = (refl, e)
+or_none (Some x) b e = cc
 
-newest_none : (xs : List ℕ) (ps : List Pending) (s : ℕ) → newest_from None s ps ≡ None → reading (put_all xs ps) s ≡ reading xs s
+or_some : (a b : Option Pending) (p : Pending) → option_or a b ≡ Some p → (a ≡ Some p) ⊎ ((a ≡ None) × (b ≡ Some p))
+or_some None b p e = inr (refl, e)
+or_some (Some x) b p e = inl e
+
+newest_none : (xs : List ℕ) (ps : List Pending) (s : ℕ) → newest_of s ps ≡ None → reading (put_all xs ps) s ≡ reading xs s
 newest_none xs [] s e = refl
 newest_none xs (p ∷ ps) s e =
-    elim (cases_eq p.sector s) [
-      | inl a ↦ absurd (some_stays p s ps (subst (λ (o : Option Pending). newest_from o s ps ≡ None) (cond-true (eqb p.sector s) (Some p) None (eq-eqb p.sector s a)) e))
-      | inr a ↦ newest_none (put_down xs p) ps s (subst (λ (o : Option Pending). newest_from o s ps ≡ None) (cond-false (eqb p.sector s) (Some p) None (ne_eqb p.sector s a)) e) ∙ other xs p s (λ z. a (sym z))
+    let f = or_none (newest_of s ps) _ (sym (newest_more p ps s) ∙ e) in
+    let n : (p.sector ≡ s → ⊥) = λ a. let g = sym (cond-true (eqb p.sector s) (Some p) None (eq-eqb p.sector s a)) ∙ f.1 in cc in
+    newest_none (put_down xs p) ps s f.0 ∙ other xs p s (λ z. n (sym z))
+
+newest_some : (xs : List ℕ) (ps : List Pending) (s : ℕ) (p : Pending) → s < size_of xs → newest_of s ps ≡ Some p → length p.bytes ≡ 512 → reading (put_all xs ps) s ≡ bytes p.bytes
+newest_some xs [] s p h e l = cc
+newest_some xs (q ∷ ps) s p h e l =
+    elim (or_some (newest_of s ps) _ p (sym (newest_more q ps s) ∙ e)) [
+      | inl f ↦ newest_some (put_down xs q) ps s p (subst (λ (n : ℕ). s < n) (sym (down_is xs q).size) h) f l
+      | inr f ↦ newest_none (put_down xs q) ps s f.0 ∙ elim (cases_eq q.sector s) [
+        | inl a ↦ let g : Some q ≡ Some p = sym (cond-true (eqb q.sector s) (Some q) None (eq-eqb q.sector s a)) ∙ f.1 in
+            let m : q ≡ p = cc in
+            subst (λ (z : Pending). reading (put_down xs q) s ≡ bytes z.bytes) m (here xs q s a h (subst (λ (z : Pending). length z.bytes ≡ 512) (sym m) l))
+        | inr a ↦ let g : ◌≡◌ {A = Option Pending} None (Some p) = sym (cond-false (eqb q.sector s) (Some q) None (ne_eqb q.sector s a)) ∙ f.1 in cc
+      ]
     ]
 
 -- a read of image and waiting writes together
@@ -232,8 +240,8 @@ seen_beyond xs ps s h = let e = all_size xs ps in seen_past (put_all xs ps) s (o
 pub seen_inside : (xs : List ℕ) (ps : List Pending) (s : ℕ) → s < size_of xs → seen (put_all xs ps) s ≡ reading (put_all xs ps) s
 seen_inside xs ps s h = let e = all_size xs ps in seen_within (put_all xs ps) s (omega arith)
 
-pub seen_some : (xs : List ℕ) (ps : List Pending) (s : ℕ) (p : Pending) → s < size_of xs → newest_from None s ps ≡ Some p → length p.bytes ≡ 512 → seen (put_all xs ps) s ≡ bytes p.bytes
-seen_some xs ps s p h e l = seen_inside xs ps s h ∙ newest_some xs ps s None h (λ q f k. let z : ◌≡◌ {A = ℕ} 0 1 = cc in absurd (omega arith)) p e l
+pub seen_some : (xs : List ℕ) (ps : List Pending) (s : ℕ) (p : Pending) → s < size_of xs → newest_of s ps ≡ Some p → length p.bytes ≡ 512 → seen (put_all xs ps) s ≡ bytes p.bytes
+seen_some xs ps s p h e l = seen_inside xs ps s h ∙ newest_some xs ps s p h e l
 
-pub seen_none : (xs : List ℕ) (ps : List Pending) (s : ℕ) → s < size_of xs → newest_from None s ps ≡ None → seen (put_all xs ps) s ≡ seen xs s
+pub seen_none : (xs : List ℕ) (ps : List Pending) (s : ℕ) → s < size_of xs → newest_of s ps ≡ None → seen (put_all xs ps) s ≡ seen xs s
 seen_none xs ps s h e = seen_inside xs ps s h ∙ newest_none xs ps s e ∙ sym (seen_within xs s h)

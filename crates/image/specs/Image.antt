@@ -1,5 +1,5 @@
 -- What the bytes of an image mean: 513 bytes a sector, a mark and then the sector's 512 bytes. Assumes nothing.
-use Rattle.std.specs.Prelude.{ℕ, ◌+◌, ◌*◌, ◌/◌, min, Bool, true, false, cond, List, ◌∷◌, ◌++◌, length, take, drop, ◌==◌, nat_lt, slice_index}
+use Rattle.std.specs.Prelude.{ℕ, ◌+◌, ◌*◌, ◌/◌, min, Bool, true, false, cond, List, ◌∷◌, ◌++◌, length, take, drop, Some, None, Option, ◌==◌, nat_lt, slice_index}
 use Rattle.std.specs.Str.{bytes_eq}
 use Rattle.device.specs.Meaning.{Reading, bytes, torn, Contents}
 
@@ -33,10 +33,10 @@ same torn torn = true
 abbrev pub only : Reading → Contents
 only x = λ y. same y x
 
--- a read of a sector that reads so: whether it fills the buffer, and what the buffer then holds
-abbrev pub readable : Reading → Bool
-readable (bytes b) = true
-readable torn = false
+-- a read of a sector that reads so: its bytes, or none; and what a buffer then holds that they are copied into
+abbrev pub bytes_of : Reading → Option (List ℕ)
+bytes_of (bytes b) = Some b
+bytes_of torn = None
 
 abbrev pub filled : List ℕ → Reading → List ℕ
 filled old (bytes b) = b

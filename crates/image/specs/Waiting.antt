@@ -1,5 +1,5 @@
 -- What an image means while writes wait to be put down, the oldest first. Assumes nothing.
-use Rattle.std.specs.Prelude.{ℕ, ◌*◌, Bool, false, cond, ◌&&◌, ◌||◌, List, [], ◌∷◌, length, Some, None, Option, ◌==◌, nat_lt, slice_set}
+use Rattle.std.specs.Prelude.{ℕ, ◌*◌, Bool, false, cond, ◌&&◌, ◌||◌, List, [], ◌∷◌, length, reverse, find, Some, None, Option, ◌==◌, nat_lt, slice_set}
 use Rattle.device.specs.Meaning.{Meaning, Reading, bytes, torn}
 use Rattle.image.specs.Image.{size_of, reading, list_put_at, same}
 use Rattle.image.specs.Fuses.{fate, later}
@@ -61,7 +61,6 @@ abbrev pub put_some : List ℕ → Option Pending → List ℕ
 put_some image None = image
 put_some image (Some p) = put_down image p
 
--- the newest waiting write of a sector, or `o` where none waits
-abbrev pub newest_from : Option Pending → ℕ → List Pending → Option Pending
-newest_from o s [] = o
-newest_from o s (p ∷ ps) = newest_from (cond (p.sector == s) (Some p) o) s ps
+-- the newest waiting write of a sector, the first of it from behind; or none where none waits
+abbrev pub newest_of : ℕ → List Pending → Option Pending
+newest_of s ps = find (λ p. p.sector == s) (reverse ps)

@@ -53,17 +53,10 @@ pub fn spend(fuse: &mut Option<Fuse>) -> Option<Plan>
     ensures plan { result ≡ cutting fuse.old }
     ensures after { fuse.new ≡ counted fuse.old }
 {
-    match *fuse {
-        Some(f) => {
-            if f.left == 0 {
-                return Some(f.plan);
-            }
-            *fuse = Some(Fuse {
-                left: f.left - 1,
-                plan: f.plan,
-            });
-            None
-        }
-        None => None,
+    let fuse = fuse.as_mut()?;
+    if fuse.left == 0 {
+        return Some(fuse.plan);
     }
+    fuse.left -= 1;
+    None
 }

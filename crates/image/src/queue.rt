@@ -1,23 +1,25 @@
 //! The writes that wait, the oldest first.
-ghost use Rattle.std.specs.Prelude.{◌≡◌, ◌+◌, ◌≤◌, [], ◌∷◌, ◌++◌, IfOk, None, vec_len, vec_capacity, MatchOption};
-ghost use Rattle.image.specs.Waiting.{newest_from, over, staying};
+ghost use Rattle.std.specs.Prelude.{◌≡◌, ◌+◌, ◌≤◌, [], ◌∷◌, ◌++◌, IfOk, MatchOption};
+ghost use Rattle.std.specs.VecDeque.{deque_len, deque_capacity};
+ghost use Rattle.image.specs.Waiting.{newest_of, over, staying};
 
 use crate::Pending;
 use std::alloc::{AllocError, Global};
+use std::collections::VecDeque;
 
 /// At most 8 writes. Its memory is taken once, when it is made.
 #[derive(Drop)]
 pub struct Queue {
-    items: Vec<Pending>,
-    ghost few: { vec_len items ≤ 8 },
-    ghost room: { 8 ≤ vec_capacity items },
+    items: VecDeque<Pending>,
+    ghost few: { deque_len items ≤ 8 },
+    ghost room: { 8 ≤ deque_capacity items },
 }
 
 impl Queue {
     pub fn new(heap: Global) -> Result<Queue, AllocError>
         ensures { IfOk result (λ q. q.items.items ≡ []) }
     {
-        let items = Vec::with_capacity(heap, 8)?;
+        let items = VecDeque::with_capacity(heap, 8)?;
         Ok(Queue { items })
     }
 
@@ -26,42 +28,31 @@ impl Queue {
         ensures out { result ≡ over 8 (self.old.items.items ++ write ∷ []) }
         ensures stay { self.new.items.items ≡ staying 8 (self.old.items.items ++ write ∷ []) }
     {
-        if self.items.len() < 8 {
-            self.items.push_reserved(write);
-            return None;
-        }
-        let oldest = self.items.remove(0);
-        self.items.push_reserved(write);
-        Some(oldest)
+        let oldest = if self.items.len() < 8 {
+            None
+        } else {
+            self.take()
+        };
+        self.items.push_back_reserved(write);
+        oldest
     }
 
     /// Takes the oldest.
     pub fn take(&mut self) -> Option<Pending>
-        ensures len { MatchOption result (vec_len self.old.items ≡ 0) (λ _. vec_len self.new.items + 1 ≡ vec_len self.old.items) }
+        ensures len { MatchOption result (deque_len self.old.items ≡ 0) (λ _. deque_len self.new.items + 1 ≡ deque_len self.old.items) }
         ensures cases { MatchOption result ((self.old.items.items ≡ []) × (self.new.items.items ≡ [])) (λ p. self.old.items.items ≡ p ∷ self.new.items.items) }
     {
-        if self.items.len() == 0 {
-            return None;
-        }
-        Some(self.items.remove(0))
+        self.items.pop_front()
     }
 
     /// The newest write of a sector.
     pub fn newest(&self, sector: usize) -> Option<Pending>
-        ensures { result ≡ newest_from None sector self.now.items.items }
+        ensures { result ≡ newest_of sector self.now.items.items }
     {
-        newest_of(self.items.as_slice(), sector)
+        self.items
+            .iter()
+            .rev()
+            .find(|write| write.sector == sector)
+            .copied()
     }
-}
-
-fn newest_of(items: &[Pending], sector: usize) -> Option<Pending>
-    ensures { result ≡ newest_from None sector items.now }
-{
-    let mut found = None;
-    for p in items {
-        if p.sector == sector {
-            found = Some(*p);
-        }
-    }
-    found
 }

@@ -1,6 +1,6 @@
 //! Sectors of an image. A sector or a write past the image is left alone.
-ghost use Rattle.std.specs.Prelude.{◌≡◌, ◌+◌, ◌≤◌, length, take, drop};
-ghost use Rattle.image.specs.Image.{filled, list_put_at, readable, seen, size_of};
+ghost use Rattle.std.specs.Prelude.{◌≡◌, ◌+◌, ◌≤◌, length};
+ghost use Rattle.image.specs.Image.{bytes_of, list_put_at, seen, size_of};
 ghost use Rattle.image.specs.Waiting.{landed, put_down};
 
 use crate::{Fate, Pending};
@@ -22,37 +22,29 @@ fn put_at(image: &mut [u8], at: usize, bytes: &Sector)
     image[at + 1..at + 513].copy_from_slice(bytes);
 }
 
-// Copies the bytes of the sector at a place of the image.
-fn copy_at(image: &mut [u8], at: usize, buffer: &mut Sector)
-    requires { at + 513 ≤ length image.old }
-    ensures same { image.new ≡ image.old }
-    ensures bytes { buffer.new ≡ take 512 (drop (at + 1) image.old) }
+/// The bytes of a sector, or none where it is torn or lies past the image.
+#[tactic(auto, unfolding(crate::specs::Image::reading))]
+pub fn find(image: &[u8], sector: usize) -> Option<Sector>
+    ensures { result ≡ bytes_of (seen image.now sector) }
 {
-    buffer.copy_from_slice(&image[at + 1..at + 513]);
-}
-
-/// Reads a sector: whether it is readable, and its bytes are then in the buffer.
-pub fn find(image: &mut [u8], sector: usize, buffer: &mut Sector) -> bool
-    ensures same { image.new ≡ image.old }
-    ensures found { result ≡ readable (seen image.old sector) }
-    ensures filled { buffer.new ≡ filled buffer.old (seen image.old sector) }
-{
-    if sector >= (image.len() / 513).min(65536) {
-        return false;
+    if sector >= count(image) {
+        return None;
     }
     let at = sector * 513;
     if image[at] != 0 {
-        return false;
+        return None;
     }
-    copy_at(image, at, buffer);
-    true
+    // A copy: `try_from` of the slice answers a Result that is never an error here.
+    let mut bytes = [0; 512];
+    bytes.copy_from_slice(&image[at + 1..at + 513]);
+    Some(bytes)
 }
 
 /// Puts a write down.
 pub fn lower(image: &mut [u8], write: &Pending)
     ensures { image.new ≡ put_down image.old write.now }
 {
-    if write.sector < (image.len() / 513).min(65536) {
+    if write.sector < count(image) {
         put_at(image, write.sector * 513, &write.bytes);
     }
 }
@@ -64,7 +56,7 @@ pub fn land(image: &mut [u8], fate: Fate, write: &Pending)
     match fate {
         Fate::Dropped => {}
         Fate::Torn => {
-            if write.sector < (image.len() / 513).min(65536) {
+            if write.sector < count(image) {
                 image[write.sector * 513] = 1;
             }
         }

@@ -9,4 +9,4 @@
 pub mod faults;
 pub mod matching;
 pub mod paging;
-mod reading;
+pub mod reading;

@@ -1,12 +1,11 @@
 //! Commands written as pages over a ring of sectors, and read back.
 use crate::faults::JobFault;
-use crate::reading::{Taker, print_refused, range_fault, take_lines};
+use crate::reading::{NotTaken, Taker, range_fault, take_lines};
 use journal::layouts::Layout;
 use records::commands::Command;
 use records::numbers::{CommandNumber, HouseNumber, PageNumber};
 use records::pages::batches::MOST_COMMANDS;
 use records::pages::{Page, PageHead};
-use records::refusals::Refusal;
 use std::alloc::Global;
 use texts::lines::CommandLine;
 
@@ -19,45 +18,41 @@ struct Ring {
     layout: Layout,
     sectors: Vec<[u8; 512]>,
     staged: Vec<Command>,
-    pages: u64,
-    commands: u64,
+    pages: PageNumber,
+    commands: CommandNumber,
 }
 
 impl Ring {
     fn new(heap: Global, size: usize) -> Result<Ring, JobFault> {
-        let Some(layout) = Layout::new(size) else {
-            return Err(JobFault::Sectors);
-        };
         Ok(Ring {
-            layout,
+            layout: Layout::new(size).ok_or(JobFault::Sectors)?,
             sectors: Vec::from_elem(heap, [0; 512], size)?,
             staged: Vec::with_capacity(heap, MOST_COMMANDS)?,
-            pages: 0,
-            commands: 0,
+            pages: PageNumber(0),
+            commands: CommandNumber(0),
         })
     }
 
     // Writes the commands that wait as the next page, in its sector.
     fn write_page(&mut self, rt: &HostRuntime) -> Result<(), JobFault> {
-        let number = self.pages.saturating_add(1);
-        let first = self.commands.saturating_add(1);
         let head = PageHead {
             house: HOUSE,
-            number: PageNumber(number),
-            first: CommandNumber(first),
+            number: PageNumber(self.pages.0.saturating_add(1)),
+            first: CommandNumber(self.commands.0.saturating_add(1)),
         };
-        let Some(bytes) = head.encode(self.staged.as_slice()) else {
-            return Err(JobFault::NumbersSpent);
-        };
+        let bytes = head
+            .encode(self.staged.as_slice())
+            .ok_or(JobFault::NumbersSpent)?;
         let count = self.staged.len();
-        let place = self.layout.page_sector(PageNumber(number));
+        let place = self.layout.page_sector(head.number);
+        let (number, first) = (head.number.0, head.first.0);
         println!(rt; "page {number} sector {place} first command {first} commands {count}")?;
         print_bytes(rt, &bytes)?;
         if let Some(sector) = self.sectors.get_mut(place) {
             *sector = bytes;
         }
-        self.pages = number;
-        self.commands = self.commands.saturating_add(count as u64);
+        self.pages = head.number;
+        self.commands.0 = self.commands.0.saturating_add(count as u64);
         self.staged.clear();
         Ok(())
     }
@@ -66,7 +61,7 @@ impl Ring {
 // The bytes of a sector, 32 a line; lines of zeros alone are left out.
 fn print_bytes(rt: &HostRuntime, bytes: &[u8; 512]) -> Result<(), JobFault> {
     for (i, row) in bytes.chunks(32).enumerate() {
-        if !row.iter().eq([0u8; 32].iter()) {
+        if row.iter().any(|byte| *byte != 0) {
             let at = i.saturating_mul(32);
             print_row(rt, at, row)?;
         }
@@ -91,33 +86,24 @@ fn print_sector(rt: &HostRuntime, place: usize, sector: &[u8; 512]) -> Result<()
     };
     let (number, first) = (page.head.number.0, page.head.first.0);
     println!(rt; "sector {place} page {number} first command {first}")?;
-    let mut next = first;
-    for command in page.commands.as_slice() {
-        let (number, command) = (CommandNumber(next), *command);
+    for (i, command) in page.commands.as_slice().iter().enumerate() {
+        let number = CommandNumber(first + i as u64);
+        let command = *command;
         println!(rt; "  {}", CommandLine { number, command })?;
-        next = next.saturating_add(1);
     }
     Ok(())
 }
 
 impl Taker for Ring {
-    fn take_command(
-        &mut self,
-        rt: &HostRuntime,
-        line: u64,
-        command: Command,
-    ) -> Result<bool, JobFault> {
+    fn take_command(&mut self, rt: &HostRuntime, command: Command) -> Result<(), NotTaken> {
         if !command.is_good() {
-            print_refused(rt, line, Refusal::NotACommand, range_fault(&command))?;
-            return Ok(false);
+            return Err(range_fault(&command).into());
         }
-        if self.staged.push(command).is_err() {
-            return Err(JobFault::NoMemory);
-        }
+        self.staged.push(command).map_err(|_| JobFault::NoMemory)?;
         if self.staged.len() >= MOST_COMMANDS {
             self.write_page(rt)?;
         }
-        Ok(true)
+        Ok(())
     }
 }
 
@@ -132,7 +118,7 @@ pub fn page_orders(rt: &HostRuntime, size: usize) -> Result<(), JobFault> {
     for (place, sector) in ring.sectors.iter().enumerate().skip(8) {
         print_sector(rt, place, sector)?;
     }
-    let (pages, commands) = (ring.pages, ring.commands);
+    let (pages, commands) = (ring.pages.0, ring.commands.0);
     println!(rt; "done: {pages} pages, {commands} commands, {refused} lines refused")?;
     Ok(())
 }

@@ -1,28 +1,59 @@
 //! Lines of standard input, handed on as commands.
+ghost use Rattle.std.specs.Prelude.{◌<◌, length, IfOk};
+ghost use Rattle.std.specs.List.{All};
+
 use crate::faults::JobFault;
 use console::input::LineBuffer;
 use records::commands::Command;
 use records::refusals::Refusal;
+use std::alloc::{AllocError, Global};
+use std::io;
 use std::io::{BufReader, Read};
 use words::{LineFault, command_of};
 
+/// Why a command is not taken: it is refused, or the job ends.
+pub(crate) enum NotTaken {
+    Refused(Refusal, LineFault),
+    Stopped(JobFault),
+}
+
+impl From<LineFault> for NotTaken {
+    fn from(fault: LineFault) -> NotTaken {
+        NotTaken::Refused(Refusal::NotACommand, fault)
+    }
+}
+
+impl From<JobFault> for NotTaken {
+    fn from(fault: JobFault) -> NotTaken {
+        NotTaken::Stopped(fault)
+    }
+}
+
+impl From<io::Error> for NotTaken {
+    fn from(e: io::Error) -> NotTaken {
+        NotTaken::Stopped(JobFault::Io(e))
+    }
+}
+
+impl From<AllocError> for NotTaken {
+    fn from(_e: AllocError) -> NotTaken {
+        NotTaken::Stopped(JobFault::NoMemory)
+    }
+}
+
 /// Who takes the commands.
 pub(crate) trait Taker {
-    /// Takes a command, and prints what came of it; whether it was taken.
-    fn take_command(
-        &mut self,
-        rt: &HostRuntime,
-        line: u64,
-        command: Command,
-    ) -> Result<bool, JobFault>;
+    /// Takes a command, and prints what came of it.
+    fn take_command(&mut self, rt: &HostRuntime, command: Command) -> Result<(), NotTaken>;
 }
 
 // Which number of a command is out of its range.
 pub(crate) fn range_fault(command: &Command) -> LineFault {
     match *command {
-        Command::Enter { member, .. } | Command::Cancel { member, .. }
-            if member.0 < 1 || member.0 > 999_999 => { LineFault::Range("a member is 1 to 999999") }
-        Command::Enter { price, .. } if price.0 < 1 || price.0 > 1_000_000 => {
+        Command::Enter { member, .. } | Command::Cancel { member, .. } if !member.is_good() => {
+            LineFault::Range("a member is 1 to 999999")
+        }
+        Command::Enter { price, .. } if !price.is_good() => {
             LineFault::Range("a price is 1 to 1000000")
         }
         Command::Enter { .. } => LineFault::Range("the lots are 1 to 1000000"),
@@ -30,61 +61,64 @@ pub(crate) fn range_fault(command: &Command) -> LineFault {
     }
 }
 
-pub(crate) fn print_refused(
-    rt: &HostRuntime,
-    line: u64,
-    reason: Refusal,
-    fault: LineFault,
-) -> Result<(), JobFault> {
-    let reason = reason.number();
-    println!(rt; "line {line} refused {reason}: {fault}")?;
-    Ok(())
-}
-
-// What a whole line says; whether it was a line that is refused.
-fn take_line<T: Taker>(
-    rt: &HostRuntime,
-    taker: &mut T,
-    line: u64,
-    buffer: &LineBuffer,
-) -> Result<bool, JobFault> {
-    let fault = match buffer.text() {
-        Err(fault) => fault,
-        Ok(text) => {
-            let text = text.trim();
-            if text.is_empty() || text.starts_with('#') {
-                return Ok(false);
-            }
-            let words: Vec<&str> = text.split_whitespace().collect(rt.alloc())?;
-            match command_of(&words) {
-                Ok(command) => return Ok(!taker.take_command(rt, line, command)?),
-                Err(fault) => fault,
-            }
-        }
-    };
-    print_refused(rt, line, Refusal::NotACommand, fault)?;
-    Ok(true)
-}
-
-// Reads lines to the end of the input; how many were refused.
-pub(crate) fn take_lines<T: Taker>(rt: &HostRuntime, taker: &mut T) -> Result<u64, JobFault> {
+/// Hands each line of standard input on under its number, and answers how many newlines came. It counts by hand: an
+/// iterator over bytes enumerates no lines.
+pub fn each_line<
+    E: From<io::Error> + From<AllocError>,
+    F: FnMut(u64, &LineBuffer) -> Result<(), E>,
+>(rt: &HostRuntime, mut take: F) -> Result<u64, E>
+    requires { F.IsAlwaysCallable take }
+{
     let mut buffer = LineBuffer::new();
-    let mut line: u64 = 1;
-    let mut refused: u64 = 0;
+    let mut line: u64 = 0;
     for byte in BufReader::new(rt.alloc(), rt.stdin())?.bytes() {
         let byte = byte?;
         if byte != b'\n' {
             buffer.push(byte);
             continue;
         }
-        if take_line(rt, taker, line, &buffer)? {
-            refused = refused.saturating_add(1);
-        }
-        buffer.clear();
         line = line.saturating_add(1);
+        take(line, &buffer)?;
+        buffer.clear();
     }
-    if !buffer.is_empty() && take_line(rt, taker, line, &buffer)? {
-        refused = refused.saturating_add(1);
+    if !buffer.is_empty() {
+        take(line.saturating_add(1), &buffer)?;
     }
+    Ok(line)
+}
+
+/// The words of a line: none where it is blank or begins with #.
+pub fn words_of(heap: Global, line: &str) -> Result<Vec<&str>, AllocError>
+    ensures { IfOk result (λ words. All (λ word. 0 < length word.now) words.items) }
+{
+    let line = line.trim();
+    if line.starts_with('#') {
+        return Ok(Vec::new(heap));
+    }
+    line.split_whitespace().collect(heap)
+}
+
+// What a whole line says.
+fn take_line<T: Taker>(rt: &HostRuntime, taker: &mut T, line: &LineBuffer) -> Result<(), NotTaken> {
+    let words = words_of(rt.alloc(), line.text()?)?;
+    if words.is_empty() {
+        return Ok(());
+    }
+    taker.take_command(rt, command_of(&words)?)
+}
+
+// Takes the commands of the whole input; how many lines were refused.
+pub(crate) fn take_lines<T: Taker>(rt: &HostRuntime, taker: &mut T) -> Result<u64, JobFault> {
+    let mut refused: u64 = 0;
+    each_line(rt, |line, buffer| match take_line(rt, taker, buffer) {
+        Ok(()) => Ok(()),
+        Err(NotTaken::Refused(reason, fault)) => {
+            refused = refused.saturating_add(1);
+            let reason = reason.number();
+            println!(rt; "line {line} refused {reason}: {fault}")?;
+            Ok(())
+        }
+        Err(NotTaken::Stopped(fault)) => Err(fault),
+    })?;
     Ok(refused)
 }

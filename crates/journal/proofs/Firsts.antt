@@ -1,20 +1,12 @@
 -- The first in rank of two.
-use Rattle.std.proofs.Common.{◌≡◌, ℕ, zero, suc, ◌<◌, Bool, true, false, cond, eqb, List, [], ◌∷◌, get_or, Some, None, sym, refl, arith, lit<}
+use Rattle.std.proofs.Common.{◌≡◌, ℕ, zero, suc, ◌<◌, Bool, true, false, cond, List, [], ◌∷◌, get_or, Some, None, refl, arith, lit<}
 use Rattle.std.proofs.lemmas.Bool.{both_ways}
 use Rattle.std.proofs.lemmas.Bool.Decides.{nat_tests}
 use Rattle.rank.specs.Ranked.{First, high_first}
+use Rattle.rank.proofs.Pairs.{high_first_irreflexive, high_first_total}
 use Rattle.journal.specs.declared.slots.Slot.TheVariants.{Zero, One}
 use Rattle.journal.specs.declared.choosing.SlotHeader.{SlotHeader}
 use Rattle.journal.specs.Choices.{header_key, in_slot, IsFirst, FirstIsFirst}
-
-pub first_of_two : {X K : Type 0} (earlier : K → K → Bool) (key : X → K) (x y : X) (i : ℕ) → First earlier key (x ∷ y ∷ []) i → eqb i 1 ≡ earlier (key y) (key x)
-first_of_two earlier key x y zero f = sym (f.none_before 1 x (lit< tt))
-first_of_two earlier key x y (suc zero) f = sym (f.earliest 0 x (lit< tt))
-first_of_two earlier key x y (suc (suc i)) f = absurd (omega (arith, f.inside))
-
--- the higher page, then the lower slot: a ranking
-not_itself : (a : ℕ × ℕ) → high_first a a ≡ false
-not_itself a = grind (arith, nat_tests)
 
 one_way : (a b : ℕ × ℕ) → high_first a b ≡ true → high_first b a ≡ false
 one_way a b h = grind (arith, nat_tests)
@@ -23,7 +15,7 @@ pub one_first : (x : SlotHeader) → First high_first header_key (x ∷ []) 0
 one_first x =
     record {
       inside = lit< tt;
-      none_before = λ k d l. at_one k d (not_itself (header_key x)) l;
+      none_before = λ k d l. at_one k d (high_first_irreflexive (header_key x)) l;
       only = λ k d l u. key_one k d l;
       earliest = λ k d l. absurd (omega arith);
     }
@@ -35,12 +27,6 @@ one_first x =
     key_one : (k : ℕ) (d : SlotHeader) → k < 1 → header_key (get_or (x ∷ []) k d) ≡ header_key x
     key_one zero d l = refl
     key_one (suc k) d l = absurd (omega arith)
-
-same_key : (a b : ℕ × ℕ) → high_first a b ≡ false → high_first b a ≡ false → a ≡ b
-same_key a b h k =
-    let p : a.0 ≡ b.0 = grind (arith, nat_tests) in
-    let q : a.1 ≡ b.1 = grind (arith, nat_tests) in
-    (λ i. (p i, q i))
 
 module _ (x y : SlotHeader) where
   both : List SlotHeader
@@ -58,8 +44,8 @@ module _ (x y : SlotHeader) where
   first_one h =
       record {
         inside = lit< tt;
-        none_before = λ k d l. each (λ z. high_first (header_key z) (header_key x) ≡ false) (not_itself (header_key x)) h k d l;
-        only = λ k d l u. each (λ z. high_first (header_key x) (header_key z) ≡ false → header_key z ≡ header_key x) (λ v. refl) (λ v. same_key (header_key y) (header_key x) h v) k d l u;
+        none_before = λ k d l. each (λ z. high_first (header_key z) (header_key x) ≡ false) (high_first_irreflexive (header_key x)) h k d l;
+        only = λ k d l u. each (λ z. high_first (header_key x) (header_key z) ≡ false → header_key z ≡ header_key x) (λ v. refl) (λ v. high_first_total (header_key y) (header_key x) h v) k d l u;
         earliest = λ k d l. absurd (omega arith);
       }
 
@@ -68,7 +54,7 @@ module _ (x y : SlotHeader) where
   first_two h =
       record {
         inside = lit< tt;
-        none_before = λ k d l. each (λ z. high_first (header_key z) (header_key y) ≡ false) (one_way (header_key y) (header_key x) h) (not_itself (header_key y)) k d l;
+        none_before = λ k d l. each (λ z. high_first (header_key z) (header_key y) ≡ false) (one_way (header_key y) (header_key x) h) (high_first_irreflexive (header_key y)) k d l;
         only = λ k d l u. each (λ z. high_first (header_key y) (header_key z) ≡ false → header_key z ≡ header_key y) (λ v. absurd (both_ways _ v h)) (λ v. refl) k d l u;
         earliest = λ k d l. below k d l;
       }

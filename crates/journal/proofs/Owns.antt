@@ -1,23 +1,17 @@
 -- A header that is another's is not taken.
-use Rattle.std.proofs.Common.{◌≡◌, ℕ, Bool, true, false, eqb, List, Some, None, sym, ap, ◌∙◌}
-use Rattle.std.proofs.lemmas.Bool.{both_ways, and_from, and_parts, eq-eqb, eqb-true, cond-true, cond-false}
+use Rattle.std.proofs.Common.{◌≡◌, ℕ, Bool, false, eqb, List, Some, None, sym, ap, ◌∙◌}
+use Rattle.std.proofs.lemmas.Bool.{both_ways, and_from, eq-eqb}
 use Rattle.records.proofs.HeaderLaws.{header_comes_back}
-use Rattle.records.specs.Headers.{good_header, header_sector_bytes, decoded_header}
+use Rattle.records.specs.Headers.{decoded_header}
 use Rattle.records.specs.declared.headers.Header.{Header}
 use Rattle.records.specs.declared.numbers.HouseNumber.{HouseNumber}
-use Rattle.journal.specs.Choices.{is_own, own, own_header_in, OwnHeader}
+use Rattle.journal.specs.Choices.{is_own, own, OwnHeader}
 
 -- the test that the code made, of the market's own code
 pub own_test : (house : HouseNumber) (k code : ℕ) (h : Header) (t : Bool) → k ≡ code → t ≡ is_own house k h → is_own house code h ≡ t
 own_test house k code h t e f = ap (λ c. is_own house c h) (sym e) ∙ sym f
 
 module _ (house : HouseNumber) (code : ℕ) (bs : List ℕ) (h : Header) (d : decoded_header bs ≡ Some h) where
-  pub own_taken : is_own house code h ≡ true → Some h ≡ own_header_in house code bs
-  own_taken e = sym (ap (own house code) d ∙ cond-true _ _ _ e)
-
-  pub own_left : is_own house code h ≡ false → None ≡ own_header_in house code bs
-  own_left e = sym (ap (own house code) d ∙ cond-false _ _ _ e)
-
   pub own_none : is_own house code h ≡ false → OwnHeader house code bs None
   own_none e k g eh em f =
       let s : Some k ≡ Some h = sym (header_comes_back k g) ∙ ap decoded_header f ∙ d in
@@ -25,9 +19,3 @@ module _ (house : HouseNumber) (code : ℕ) (bs : List ℕ) (h : Header) (d : de
       let hk : h.house.0 ≡ house.0 = ap (λ (x : Header). x.house.0) (sym same) ∙ ap (λ (x : HouseNumber). x.0) eh in
       let mk : h.market ≡ code = ap (λ (x : Header). x.market) (sym same) ∙ em in
       both_ways (is_own house code h) e (and_from (eqb h.house.0 house.0) (eqb h.market code) (eq-eqb _ _ hk) (eq-eqb _ _ mk))
-
-  pub own_some : is_own house code h ≡ true → good_header h ≡ true → header_sector_bytes h ≡ bs → OwnHeader house code bs (Some h)
-  own_some e g f =
-      let p = and_parts (eqb h.house.0 house.0) (eqb h.market code) e in
-      let hk = eqb-true h.house.0 house.0 p.0 in
-      (g, λ i. record { 0 = hk i }, eqb-true h.market code p.1, f)

@@ -5,8 +5,9 @@ ghost use Rattle.journal.specs.Choices.{header_key};
 ghost use Rattle.rank.proofs.Pairs.{high_first_chains, high_first_irreflexive, high_first_total};
 
 use crate::slots::Slot;
-use rank::Rank;
+use rank::Ranking;
 use records::headers::Header;
+use std::cmp::Reverse;
 
 mod headers;
 
@@ -29,21 +30,20 @@ pub struct Chosen<'a> {
 /// The ranking of headers: higher page, then lower slot.
 pub struct Latest;
 
-impl Rank<Latest> for SlotHeader {
+impl Ranking<SlotHeader> for Latest {
     ghost Key = { ℕ × ℕ };
 
     ghost key = { header_key };
 
-    ghost earlier = { high_first };
+    ghost earlier = { λ _. high_first };
 
-    ghost irreflexive = { high_first_irreflexive };
+    ghost irreflexive = { λ _. high_first_irreflexive };
 
-    ghost chains = { high_first_chains };
+    ghost chains = { λ _. high_first_chains };
 
-    ghost total = { high_first_total };
+    ghost total = { λ _. high_first_total };
 
-    fn stands_before(&self, other: &SlotHeader) -> bool {
-        self.header.page.0 > other.header.page.0
-            || self.header.page.0 == other.header.page.0 && (self.slot as u8) < other.slot as u8
+    fn stands_before(&self, x: &SlotHeader, y: &SlotHeader) -> bool {
+        (Reverse(x.header.page), x.slot as u8) < (Reverse(y.header.page), y.slot as u8)
     }
 }

@@ -3,7 +3,7 @@ ghost use Rattle.std.specs.Prelude.{◌≡◌};
 ghost use Rattle.journal.specs.Slots.{header_place, body_place, other};
 
 /// A snapshot slot: four sectors, a header and a body of three.
-#[derive(Clone, Copy)]
+#[derive(Clone, Copy, PartialEq, Eq, PartialOrd, Ord, Debug)]
 pub enum Slot {
     Zero = 0,
     One = 1,
@@ -24,19 +24,13 @@ impl Slot {
     pub fn header_sector(self) -> usize
         ensures { result ≡ header_place self }
     {
-        match self {
-            Slot::Zero => 0,
-            Slot::One => 4,
-        }
+        4 * self as usize
     }
 
     /// The first of the three sectors of its body.
     pub fn body_sector(self) -> usize
         ensures { result ≡ body_place self }
     {
-        match self {
-            Slot::Zero => 1,
-            Slot::One => 5,
-        }
+        self.header_sector() + 1
     }
 }

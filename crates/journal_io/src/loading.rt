@@ -23,7 +23,7 @@ fn put_at(out: &mut [u8; 1536], at: usize, sector: &Sector)
     out[at..at + 512].copy_from_slice(sector);
 }
 
-// Three sectors, one after another.
+// Three sectors, one after another. Each has a name and no list is made of them: one that is torn ends the reading there.
 fn join(first: &Sector, second: &Sector, third: &Sector) -> [u8; 1536]
     ensures { result ≡ first.now ++ (second.now ++ third.now) }
 {
@@ -59,10 +59,8 @@ fn take_body<M: Market>(
 ) -> Result<(), JournalFault>
     ensures { TakenBy (rules_of M.Market) at commands.0 body.now result (M.means market.new) }
 {
-    if market.load(body).is_err() {
-        return Err(JournalFault::Refused(at));
-    }
-    if market.last().0 != commands.0 {
+    market.load(body).map_err(|_| JournalFault::Refused(at))?;
+    if market.last() != commands {
         return Err(JournalFault::OtherLast(at));
     }
     Ok(())

@@ -19,10 +19,7 @@ fn page_bytes(head: PageHead, commands: &[Command]) -> Sector
     requires good { all_good commands.now ≡ true }
     ensures { result ≡ page_sector_bytes (page_of head commands.now) }
 {
-    match head.encode(commands) {
-        Some(bytes) => bytes,
-        None => unreachable(),
-    }
+    head.encode(commands).unwrap()
 }
 
 /// Writes a page to its sector.
@@ -61,12 +58,7 @@ pub fn read_page<D: Device>(
         return Ok(None);
     }
     match Page::decode(&bytes) {
-        Some(page) => {
-            if page.head.first.0 != head.first.0 {
-                return Err(JournalFault::BadPage(sector));
-            }
-            Ok(Some(page))
-        }
-        None => Err(JournalFault::BadPage(sector)),
+        Some(page) if page.head.first == head.first => Ok(Some(page)),
+        _ => Err(JournalFault::BadPage(sector)),
     }
 }

@@ -4,27 +4,23 @@ ghost use Rattle.journal_io.specs.Readings.{Fetched, HeaderRead, Chose};
 ghost use Rattle.protocol.specs.Worlds.{rules_of};
 ghost use Rattle.journal.specs.Slots.{header_place};
 
-use device::{Device, DeviceFault, Sector};
+use device::{Device, Sector, read_whole};
 use journal::choosing::{SlotHeader, first_header};
 use journal::slots::Slot;
 use market::interface::Market;
 use protocol::faults::JournalFault;
 use records::numbers::HouseNumber;
 
+// The device is lent by the exchange, whose field it is. A struct of it and its layout would be made anew for each call, and
+// name the device one step deeper in each clause: so calls that need its size ask for it. `kept` relates two moments, which
+// no type can hold.
 /// The bytes of a sector, or none where it is torn.
 pub fn read_sector<D: Device>(device: &mut D, sector: usize) -> Result<Option<Sector>, JournalFault>
     requires { sector < (D.meaning device.old).size }
     ensures did { Fetched (D.meaning device.old) sector result (D.meaning device.new) }
     ensures kept { D.lender device.new ≡ D.lender device.old }
 {
-    let mut buffer = [0; 512];
-    match device.read(sector, &mut buffer) {
-        Ok(()) => Ok(Some(buffer)),
-        Err(fault) => match fault {
-            DeviceFault::Torn(_) => Ok(None),
-            _ => Err(JournalFault::Device(fault)),
-        },
-    }
+    Ok(read_whole(device, sector)?)
 }
 
 // The sector of a slot's header; zeros, which are no header, where it is torn.
@@ -33,10 +29,9 @@ fn read_header<D: Device>(device: &mut D, slot: Slot) -> Result<Sector, JournalF
     ensures did { HeaderRead (D.meaning device.old) (header_place slot) result (D.meaning device.new) }
     ensures kept { D.lender device.new ≡ D.lender device.old }
 {
-    match read_sector(device, slot.header_sector()) {
-        Ok(Some(bytes)) => Ok(bytes),
-        Ok(None) => Ok([0; 512]),
-        Err(fault) => Err(fault),
+    match read_sector(device, slot.header_sector())? {
+        Some(bytes) => Ok(bytes),
+        None => Ok([0; 512]),
     }
 }
 

@@ -20,6 +20,7 @@ fn cut_out(body: &[u8; 1536], i: usize) -> Sector
     requires { i ≤ 2 }
     ensures { result ≡ piece body.now i }
 {
+    // A copy: `try_from` of the slice answers a Result that is never an error here.
     let mut out = [0; 512];
     out.copy_from_slice(&body[512 * i..512 * i + 512]);
     out
@@ -57,6 +58,8 @@ pub fn put_snapshot<D: Device>(
 }
 
 // Zeros over so many sectors of the journal.
+// The sectors are counted here, and no slice is: `i` is which of them. (A journal has at most 4,096 sectors: each call asks for
+// that, since the device and its journal were tested by the caller.)
 fn blank_journal<D: Device>(device: &mut D, journal: usize) -> Result<(), JournalFault>
     requires { journal ≤ 4096 }
     ensures did { Running (D.meaning device.old) (blanks 8 journal) result (D.meaning device.new) }

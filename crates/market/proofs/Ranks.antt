@@ -1,7 +1,7 @@
 -- Rows in rank order: the front is the first in rank, and where a new one goes.
-use Rattle.std.proofs.Common.{◌≡◌, ℕ, zero, suc, ◌+◌, ◌<◌, ◌≤◌, Bool, true, false, List, [], ◌∷◌, ◌++◌, length, get_or, take, drop, Some, None, Option, sym, refl, ap, ◌∙◌, arith, rules, MatchOption}
-use Rattle.std.specs.List.{insert}
-use Rattle.std.proofs.lemmas.List.{take_more, drop_more, take_all, drop_all, append_assoc}
+use Rattle.std.proofs.Common.{◌≡◌, ℕ, zero, suc, ◌+◌, ◌<◌, ◌≤◌, Bool, true, false, List, [], ◌∷◌, length, get_or, cond, Some, None, Option, refl, ap, ◌∙◌, arith, rules, MatchOption, not, ltb, ltb-true, ltb-false, unwrap_or, one-add}
+use Rattle.std.specs.List.{insert, position, position_or_len}
+use Rattle.std.proofs.lemmas.List.Sums.{prefix_len-le-length}
 use Rattle.std.proofs.lemmas.Bool.{and_parts}
 use Rattle.rank.specs.Ranked.{First}
 use Rattle.market.specs.declared.orders.Order.{Order}
@@ -26,26 +26,20 @@ first_front earlier key (x ∷ xs) (Some (suc i)) q c =
     let f = c.none_before 0 x (omega arith) in
     absurd (search rules)
 
--- the search for the place of o: i elements passed
-pub record Passed {X : Type 0} (b : X → X → Bool) (o : X) (xs : List X) (i : ℕ) : Type 0 where
-  pub so : placed b o xs ≡ take i xs ++ placed b o (drop i xs)
+-- a new one goes in at the first place of one that it stands before, else at the end
+pub placed_at : {X : Type 0} (b : X → X → Bool) (o : X) (xs : List X) → placed b o xs ≡ insert xs (position_or_len (b o) xs) o
+placed_at b o [] = refl
+placed_at b o (x ∷ xs) = way (b o x) (placed_at b o xs) where
+  way : (t : Bool) → placed b o xs ≡ insert xs (position_or_len (b o) xs) o → cond t (o ∷ x ∷ xs) (x ∷ placed b o xs) ≡ insert (x ∷ xs) (cond (not t) (1 + position_or_len (b o) xs) 0) o
+  way true h = refl
+  way false h = rw one-add (ap (λ z. x ∷ z) h)
 
-module _ {X : Type 0} {b : X → X → Bool} {o : X} {xs : List X} {i : ℕ} where
-  pub passed_more : (x : X) → Passed b o xs i → i < length xs → x ≡ get_or xs i x → b o x ≡ false → Passed b o xs (i + 1)
-  passed_more x e h r f =
-      let t : take (i + 1) xs ≡ take i xs ++ x ∷ [] = take_more xs i x h ∙ ap (λ y. take i xs ++ y ∷ []) (sym r) in
-      let c : drop i xs ≡ x ∷ drop (i + 1) xs = drop_more xs i x h ∙ ap (λ y. y ∷ drop (i + 1) xs) (sym r) in
-      record { so = e.so ∙ rw (t, c, f, append_assoc) }
-
-  pub passed_here : (x : X) → Passed b o xs i → i < length xs → x ≡ get_or xs i x → b o x ≡ true → placed b o xs ≡ insert xs i o
-  passed_here x e h r f =
-      let c : drop i xs ≡ x ∷ drop (i + 1) xs = drop_more xs i x h ∙ ap (λ y. y ∷ drop (i + 1) xs) (sym r) in
-      e.so ∙ rw (c, f)
-
-  pub passed_all : Passed b o xs i → length xs ≤ i → placed b o xs ≡ insert xs (length xs) o
-  passed_all e h =
-      let a = drop_all i xs h in
-      let z = drop_all (length xs) xs (omega arith) in
-      let t = take_all i xs h in
-      let u = take_all (length xs) xs (omega arith) in
-      e.so ∙ rw (a, z, t, u)
+pub place_found : {X : Type 0} (b : X → X → Bool) (o : X) (xs : List X) (r : Option ℕ) (i n : ℕ) → r ≡ position (b o) xs → n ≡ length xs → i ≡ unwrap_or r n → (i ≤ length xs) × (placed b o xs ≡ insert xs i o)
+place_found b o xs r i n e l f = rw (f, l, e) (way (ltb (position_or_len (b o) xs) (length xs)) refl) where
+  way : (t : Bool) → ltb (position_or_len (b o) xs) (length xs) ≡ t →
+      (unwrap_or (cond t (Some (position_or_len (b o) xs)) None) (length xs) ≤ length xs) × (placed b o xs ≡ insert xs (unwrap_or (cond t (Some (position_or_len (b o) xs)) None) (length xs)) o)
+  way true f = let l = ltb-true (position_or_len (b o) xs) (length xs) f in (omega arith, placed_at b o xs)
+  way false f =
+      let l = ltb-false (position_or_len (b o) xs) (length xs) f in
+      let k : position_or_len (b o) xs ≡ length xs = omega (arith, prefix_len-le-length (λ x. not (b o x)) xs) in
+      (omega arith, placed_at b o xs ∙ ap (λ i. insert xs i o) k)

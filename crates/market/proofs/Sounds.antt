@@ -99,7 +99,7 @@ side_less {s} {n} {r} {rs} m l f =
     }
 
 -- a new order comes
-chains : (s : Side) (x y z : Order) → before s x y ≡ true → before s y z ≡ true → before s x z ≡ true
+pub chains : (s : Side) (x y z : Order) → before s x y ≡ true → before s y z ≡ true → before s x z ≡ true
 chains Buy x y z h k = search rules
 chains Sell x y z h k = search rules
 

@@ -1,5 +1,5 @@
 -- The laws of a step, from those of what a market does at a good command.
-use Rattle.std.proofs.Common.{◌≡◌, ℕ, ◌+◌, ◌<◌, ◌≤◌, Bool, true, false, cond, ◌&&◌, eqb, ltb, List, [], ◌∷◌, ◌++◌, length, take, IfOk, Some, None, Ok, Err, Option, Result, sym, refl, subst, arith, rules, ltb-true, eq-eqb}
+use Rattle.std.proofs.Common.{◌≡◌, ℕ, ◌+◌, ◌<◌, ◌≤◌, Bool, true, false, cond, ◌&&◌, eqb, ltb, List, [], ◌∷◌, ◌++◌, length, take, Some, None, Option, sym, refl, subst, arith, rules, ltb-true, eq-eqb}
 use lib.Seq.{take-append_seam}
 use Rattle.std.specs.Option.{option_to_list, option_map}
 use Rattle.std.proofs.lemmas.Bool.{and_parts}
@@ -9,13 +9,13 @@ use Rattle.records.specs.declared.numbers.Member.{Member}
 use Rattle.records.specs.declared.commands.Command.{Command}
 use Rattle.records.specs.declared.commands.Side.{Side}
 use Rattle.records.specs.declared.notices.Notice.{Notice}
-use Rattle.records.specs.declared.refusals.Refusal.{Refusal}
 use Rattle.market.specs.declared.orders.Order.{Order}
 use Rattle.market.specs.Lists.{all}
 use Rattle.market.specs.Orders.{cancelled, dropped, rested}
-use Rattle.market.specs.Resting.{Resting, next, passed, withdrawn, stepped}
-use Rattle.market.specs.Steps.{Taken, Applied, uncounted}
+use Rattle.market.specs.Resting.{Resting, next, sound, passed, withdrawn, stepped}
+use Rattle.market.specs.Steps.{Taken, uncounted}
 use Rattle.market.proofs.ListLaws.{true_and}
+use Rattle.market.proofs.Sounds.{sound_fact}
 
 -- what holds of every step: at a good command, at one that is not, and at the last number
 pub stepped_ind : (act : Resting → Command → Resting × List Notice) (h : Resting) (c : Command) (P : Resting × List Notice → Type 0) →
@@ -34,6 +34,22 @@ stepped_counts act f h c = way (ltb h.last 1_000_000_000_000) (good c) where
   way true true = f h c
   way true false = refl
   way false b = refl
+
+-- what every step keeps, where what is done at a good command keeps it
+module _ (act : Resting → Command → Resting × List Notice) (v : Resting → Bool) where
+  pub stepped_keeps : ((h : Resting) (c : Command) → v h ≡ true → h.last < 1_000_000_000_000 → good c ≡ true → v (act h c).0 ≡ true) →
+      ((h : Resting) → v h ≡ true → h.last < 1_000_000_000_000 → v (passed h) ≡ true) → (h : Resting) (c : Command) → v h ≡ true → v (stepped act h c).0 ≡ true
+  stepped_keeps keeps passes h c k = stepped_ind act h c (λ t. v t.0 ≡ true) (λ l g. keeps h c k l g) (λ l. passes h k l) k
+
+  pub stepped_few : ((h : Resting) (c : Command) → v h ≡ true → length (act h c).1 ≤ 64) → (h : Resting) (c : Command) → v h ≡ true → length (stepped act h c).1 ≤ 64
+  stepped_few few h c k = stepped_ind act h c (λ t. length t.1 ≤ 64) (λ l g. few h c k) (λ l. omega arith) (omega arith)
+
+pub stepped_uncounts : (act : Resting → Command → Resting × List Notice) → ((h : Resting) (c : Command) → all (uncounted (h.last + 1)) (act h c).1 ≡ true) →
+    (h : Resting) (c : Command) → all (uncounted (h.last + 1)) (stepped act h c).1 ≡ true
+stepped_uncounts act f h c = stepped_ind act h c (λ t. all (uncounted (h.last + 1)) t.1 ≡ true) (λ l g. f h c) (λ l. refl) refl
+
+pub bounded : (h : Resting) → sound h ≡ true → h.last ≤ 1_000_000_000_000
+bounded h v = (sound_fact h v).bounded
 
 pub all_append : {X : Type 0} (p : X → Bool) (xs ys : List X) → all p xs ≡ true → all p ys ≡ true → all p (xs ++ ys) ≡ true
 all_append p [] ys h k = k
@@ -75,10 +91,12 @@ withdrawn_uncounted h m n = uncounted_listed (h.last + 1) (next h) refl _
 pub spent : (act : Resting → Command → Resting × List Notice) (h : Resting) (c : Command) (xs : List Notice) → 1_000_000_000_000 ≤ h.last → Taken (stepped act h c) xs h xs 0
 spent act h c xs l = let e : ltb h.last 1_000_000_000_000 ≡ false = search rules in record { state = simp e; number = simp e; list = simp e }
 
--- what holds of a step's state and notices holds of what an answer leaves in the state and in the front of the list
-pub answer_tells : {S : Type 0} (F : S → List Notice → Type 0) (s : S) (to : S × List Notice) (xs : List Notice) (t : S) (ys : List Notice) (r : Result ℕ Refusal) → F to.0 to.1 →
-    Applied s to xs t ys r → IfOk r (λ n. F t (take n ys))
-answer_tells F s to xs t ys (Ok n) f a =
-    let front : take n ys ≡ to.1 = rw (a.1.number, a.1.list) (take-append_seam to.1 _) in
-    subst (F t) (sym front) (subst (λ u. F u to.1) (sym a.1.state) f)
-answer_tells F s to xs t ys (Err e) f a = tt
+-- before the last number a good command's step is what is done at it
+pub stepped_acts : (act : Resting → Command → Resting × List Notice) (h : Resting) (c : Command) → h.last < 1_000_000_000_000 → good c ≡ true → stepped act h c ≡ act h c
+stepped_acts act h c l g = let e : ltb h.last 1_000_000_000_000 ≡ true = search rules in simp (e, g)
+
+-- what holds of the state and the notices that are taken holds of what is left in the state and in the front of the list
+pub taken_tells : {S : Type 0} (F : S → List Notice → Type 0) {to : S × List Notice} {xs : List Notice} {t : S} {ys : List Notice} {n : ℕ} → F to.0 to.1 → Taken to xs t ys n → F t (take n ys)
+taken_tells F {to} {xs} {t} {ys} {n} f a =
+    let front : take n ys ≡ to.1 = rw (a.number, a.list) (take-append_seam to.1 _) in
+    subst (F t) (sym front) (subst (λ u. F u to.1) (sym a.state) f)

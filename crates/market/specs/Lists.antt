@@ -1,11 +1,10 @@
 -- Tests of lists, and elements taken out of them or put in.
 use Rattle.std.specs.Prelude.{◌≡◌, ℕ, ◌<◌, Bool, true, cond, ◌&&◌, ◌⊎◌, List, [], ◌∷◌, ◌++◌, length, drop, Some, None, Option, slice_index_or}
-use Rattle.std.specs.List.{remove}
+use Rattle.std.specs.List.{remove, list_all, find}
 
 -- p of each
 abbrev pub all : {X : Type 0} → (X → Bool) → List X → Bool
-all p [] = true
-all p (x ∷ xs) = p x && all p xs
+all p xs = list_all p xs
 
 -- b of each and every one that follows it
 abbrev pub pairwise : {X : Type 0} → (X → X → Bool) → List X → Bool
@@ -23,8 +22,7 @@ In x (y ∷ ys) = (x ≡ y) ⊎ In x ys
 
 -- the first that passes the test
 abbrev pub found : {X : Type 0} → (X → Bool) → List X → Option X
-found p [] = None
-found p (x ∷ xs) = cond (p x) (Some x) (found p xs)
+found p xs = find p xs
 
 -- the list without it
 abbrev pub without : {X : Type 0} → (X → Bool) → List X → List X

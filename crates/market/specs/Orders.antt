@@ -14,10 +14,18 @@ use Rattle.records.specs.declared.notices.Notice.{Notice}
 use Rattle.market.specs.declared.orders.Order.{Order}
 use Rattle.market.specs.Lists.{placed}
 
+-- what ranks an order: its price, and its number
+abbrev pub order_key : Order → ℕ × ℕ
+order_key o = (o.price.0, o.number.0)
+
+-- buys rank by the higher price and sells by the lower, then both by the smaller number
+abbrev pub earlier : Side → ℕ × ℕ → ℕ × ℕ → Bool
+earlier Buy = high_first
+earlier Sell = low_first
+
 -- which of two orders of a side stands before the other
 abbrev pub before : Side → Order → Order → Bool
-before Buy x y = high_first (x.price.0, x.number.0) (y.price.0, y.number.0)
-before Sell x y = low_first (x.price.0, x.number.0) (y.price.0, y.number.0)
+before s x y = earlier s (order_key x) (order_key y)
 
 abbrev pub other : Side → Side
 other Buy = Sell

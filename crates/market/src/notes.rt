@@ -37,6 +37,7 @@ pub fn fill_notice(
 }
 
 /// All lots of an order were dropped or cancelled.
+// The zeros are written out, as they are sent.
 pub fn lots_notice(kind: Kind, command: CommandNumber, order: &Order) -> Notice
     ensures { result ≡ lots_of kind command order.now }
 {

@@ -1,13 +1,16 @@
 //! An order that rests or enters, and how a side ranks its orders.
-ghost use Rattle.std.specs.Prelude.{ℕ};
-ghost use Rattle.rank.specs.Ranked.{low_first, high_first};
+ghost use Rattle.std.specs.Prelude.{◌≡◌, ℕ};
+ghost use Rattle.records.specs.declared.commands.Side.TheVariants.{Buy, Sell};
 ghost use Rattle.rank.proofs.Pairs.{high_first_chains, high_first_irreflexive, high_first_total, low_first_chains, low_first_irreflexive, low_first_total};
+ghost use Rattle.market.specs.Orders.{accepts, order_key, earlier};
 
-use rank::Rank;
+use rank::Ranking;
+use records::commands::Side;
 use records::numbers::{CommandNumber, Lots, Member, Price};
+use std::cmp::Reverse;
 
 /// What is open of an order: its number is that of the command that entered it.
-#[derive(Clone, Copy)]
+#[derive(Clone, Copy, PartialEq, Eq, Debug, Default)]
 pub struct Order {
     pub number: CommandNumber,
     pub member: Member,
@@ -15,46 +18,36 @@ pub struct Order {
     pub lots: Lots,
 }
 
-/// The ranking of buys: higher price, then smaller number.
-pub struct Buys;
-
-/// The ranking of sells: lower price, then smaller number.
-pub struct Sells;
-
-impl Rank<Buys> for Order {
-    ghost Key = { ℕ × ℕ };
-
-    ghost key = { λ x. (x.price.0, x.number.0) };
-
-    ghost earlier = { high_first };
-
-    ghost irreflexive = { high_first_irreflexive };
-
-    ghost chains = { high_first_chains };
-
-    ghost total = { high_first_total };
-
-    fn stands_before(&self, other: &Order) -> bool {
-        self.price.0 > other.price.0
-            || self.price.0 == other.price.0 && self.number.0 < other.number.0
+impl Order {
+    /// Whether an order of a side trades at a price.
+    pub fn accepts(&self, side: Side, price: Price) -> bool
+        ensures { result ≡ accepts side self.now.price.0 price.0 }
+    {
+        match side {
+            Side::Buy => price <= self.price,
+            Side::Sell => self.price <= price,
+        }
     }
 }
 
-impl Rank<Sells> for Order {
+/// Buys rank by the higher price, sells by the lower, and both then by the smaller number.
+impl Ranking<Order> for Side {
     ghost Key = { ℕ × ℕ };
 
-    ghost key = { λ x. (x.price.0, x.number.0) };
+    ghost key = { order_key };
 
-    ghost earlier = { low_first };
+    ghost earlier = { earlier };
 
-    ghost irreflexive = { low_first_irreflexive };
+    ghost irreflexive = { elim [ Buy ↦ high_first_irreflexive | Sell ↦ low_first_irreflexive ] };
 
-    ghost chains = { low_first_chains };
+    ghost chains = { elim [ Buy ↦ high_first_chains | Sell ↦ low_first_chains ] };
 
-    ghost total = { low_first_total };
+    ghost total = { elim [ Buy ↦ high_first_total | Sell ↦ low_first_total ] };
 
-    fn stands_before(&self, other: &Order) -> bool {
-        self.price.0 < other.price.0
-            || self.price.0 == other.price.0 && self.number.0 < other.number.0
+    fn stands_before(&self, x: &Order, y: &Order) -> bool {
+        match self {
+            Side::Buy => (Reverse(x.price), x.number) < (Reverse(y.price), y.number),
+            Side::Sell => (x.price, x.number) < (y.price, y.number),
+        }
     }
 }

@@ -2,16 +2,16 @@
 ghost use Rattle.std.specs.Prelude.{◌≡◌, ℕ, ◌<◌, ◌≤◌, true, [], length, IfOk, vec_len, vec_capacity, slice_index_or};
 ghost use Rattle.std.specs.Borrow.{sem, follows};
 ghost use Rattle.std.specs.Vec.{with_item};
-ghost use Rattle.std.specs.List.{insert};
+ghost use Rattle.std.specs.List.{position};
 ghost use Rattle.market.specs.contracts.orders.Order.{the_row as order_row};
 ghost use Rattle.market.specs.contracts.tables.OrderTable.{the_row as table_row};
-ghost use Rattle.market.specs.Lists.{pairwise, found, without, placed, FoundAt};
+ghost use Rattle.market.specs.Lists.{pairwise, found, without, placed};
 ghost use Rattle.market.specs.Orders.{before, is_of, rested, reduced, Has, front};
 ghost use Rattle.market.specs.Means.{rows};
 
 use crate::notes::lots_notice;
-use crate::orders::{Buys, Order, Sells};
-use rank::{Rank, first_in_rank};
+use crate::orders::Order;
+use rank::{Ranking, first_in_rank};
 use records::commands::Side;
 use records::notices::{Kind, Notice};
 use records::numbers::{CommandNumber, Lots, Member};
@@ -20,30 +20,18 @@ use std::alloc::{AllocError, Global};
 /// How many orders may rest on a side.
 pub const MOST_ORDERS: usize = 32;
 
-/// The orders of a side, in memory for 32 that is reserved once. It has no invariant of its own:
-/// the market that holds it keeps its rows in rank order.
+/// The orders of a side, in memory for 32 that is reserved once. It has no invariant of its own: the
+/// market that holds it keeps its rows in rank order, and so each call says that it keeps the memory.
 #[derive(Drop)]
 pub struct OrderTable {
     rows: Vec<Order>,
 }
 
-// The place in front of which `x` goes by rank.
-fn place_of<B, T: Rank<B>>(xs: &[T], x: &T) -> usize
-    ensures { (result ≤ length xs.now) × (placed (λ y z. T.earlier (T.key y) (T.key z)) x.now xs.now ≡ insert xs.now result x.now) }
+// Where the first stands that `x` stands before.
+fn first_behind<R: Ranking<T>, T>(ranking: &R, xs: &[T], x: &T) -> Option<usize>
+    ensures { result ≡ position (λ y. R.earlier ranking.now (R.key x.now) (R.key y)) xs.now }
 {
-    for i in 0..xs.len() {
-        if x.stands_before(&xs[i]) {
-            return i;
-        }
-    }
-    xs.len()
-}
-
-// Whether this is that order of that member.
-fn is_order(row: &Order, member: Member, order: CommandNumber) -> bool
-    ensures { result ≡ is_of member order row.now }
-{
-    row.number.0 == order.0 && row.member.0 == member.0
+    xs.iter().position(|y| ranking.stands_before(x, y))
 }
 
 impl OrderTable {
@@ -72,6 +60,7 @@ impl OrderTable {
     }
 
     /// Keeps these orders in place of its own, in the memory that is there.
+    // One by one, without a call that might ask for memory.
     pub fn refill(&mut self, orders: &[Order])
         requires few { length orders.now ≤ 32 }
         requires room { 32 ≤ vec_capacity self.old.rows }
@@ -98,10 +87,7 @@ impl OrderTable {
         requires { pairwise (before side) (rows self.now) ≡ true }
         ensures { result ≡ front (rows self.now) }
     {
-        match side {
-            Side::Buy => first_in_rank::<Buys, Order>(self.as_slice()),
-            Side::Sell => first_in_rank::<Sells, Order>(self.as_slice()),
-        }
+        first_in_rank(&side, self.as_slice())
     }
 
     /// Takes lots from the first order, which leaves at none.
@@ -125,10 +111,7 @@ impl OrderTable {
         ensures rows { rows self.new ≡ placed (before side) order (rows self.old) }
         ensures capacity { vec_capacity self.new.rows ≡ vec_capacity self.old.rows }
     {
-        let i = match side {
-            Side::Buy => place_of::<Buys, Order>(self.as_slice(), &order),
-            Side::Sell => place_of::<Sells, Order>(self.as_slice(), &order),
-        };
+        let i = first_behind(&side, self.as_slice(), &order).unwrap_or(self.rows.len());
         let _ = self.rows.insert(i, order);
     }
 
@@ -146,16 +129,13 @@ impl OrderTable {
         }
     }
 
-    // Where this order of this member stands.
+    // Where this order of this member stands. Member and order are the fields of a cancel.
     fn place_found(&self, member: Member, order: CommandNumber) -> Option<usize>
-        ensures { FoundAt (is_of member order) (rows self.now) result }
+        ensures { result ≡ position (is_of member order) (rows self.now) }
     {
-        for (i, row) in self.rows.iter().enumerate() {
-            if is_order(row, member, order) {
-                return Some(i);
-            }
-        }
-        None
+        self.rows
+            .iter()
+            .position(|row| row.number == order && row.member == member)
     }
 
     /// Takes this order of this member out.

@@ -4,9 +4,9 @@ use Rattle.std.proofs.lemmas.Bool.{or_left, or_right, or_cases, and_from, and_pa
 use Rattle.device.specs.Meaning.{Meaning, Reading, bytes, torn, Contents, ◌∈◌, Lawful}
 use Rattle.device.specs.declared.fault.DeviceFault.{DeviceFault}
 use Rattle.device.specs.declared.fault.DeviceFault.TheVariants.{OutOfRange, Cut, Torn}
-use Rattle.device.specs.Faults.{told_of}
+use Rattle.device.specs.Shift.{told_below}
 use Rattle.device.specs.Calls.{Answer, DidSync, Moved, WasCut, Written, Synced, Kept, Joined}
-use Rattle.mirror.specs.Halves.{either, both, mirrored, either_in, Level, SyncedHalves}
+use Rattle.mirror.specs.Halves.{either, both, mirrored, either_in, Level}
 use Rattle.mirror.specs.Mends.{SyncsBoth, MendedOne, CutOne, Tight, Mended, MendsOne, MendsAll}
 use Rattle.mirror.proofs.Moves.{from_same, from_synced, after_moved, pair_kept, half_dark, dark_left, dark_right, either_torn, either_bytes}
 
@@ -218,30 +218,31 @@ unfolding both
 both_only S T z f g (bytes xs) i = ⊎_elim (f (bytes xs)) (g (bytes xs)) (or_cases _ _ i)
 both_only S T z f g torn i = f torn (and_parts _ _ i).0
 
--- What a sync did to the mirror and to its halves. Its steps: `a0` and `b0` synced are `a` and `b`, mended `m` and `n`, and
--- synced again `m'` and `n'`.
-abbrev pub BothSynced : (a b : Meaning) → Answer → (m n : Meaning) → Type 0
-BothSynced a b r m n = DidSync (mirrored a b) r (mirrored m n) × SyncedHalves a b r m n
+-- What a sync did to the mirror. Its steps: `a0` and `b0` synced are `a` and `b`, mended `m` and `n`, and synced again `m'`
+-- and `n'`.
+pub sync_dark : (a b : Meaning) → Lawful a → Lawful b → (a.lit && b.lit) ≡ false → DidSync (mirrored a b) (Err (Cut 0)) (mirrored a b)
+sync_dark a b la lb e = (refl, half_dark a b la lb e)
 
-pub sync_dark : (a b : Meaning) → Lawful a → Lawful b → (a.lit && b.lit) ≡ false → BothSynced a b (Err (Cut 0)) a b
-sync_dark a b la lb e = ((refl, half_dark a b la lb e), (refl, refl))
-
-pub sync_first : (a b m n : Meaning) (f : DeviceFault) → Lawful a → Lawful b → SyncsBoth a b (Err f) m n → BothSynced a b (Err f) m n
+pub sync_first : (a b m n : Meaning) (f : DeviceFault) → Lawful a → Lawful b → SyncsBoth a b (Err f) m n → DidSync (mirrored a b) (Err f) (mirrored m n)
 sync_first a b m n (OutOfRange s) la lb d = absurd d
-sync_first a b m n (Cut s) la lb (e, inl (c, q)) =
-    ((e, record { dark = dark_left _ _ c.dark; moved = pair_kept a b m n c.moved (from_same b n lb q) }), (c.moved.size, ap (λ (z : Meaning). z.size) q))
-sync_first a b m n (Cut s) la lb (e, inr (y, c)) =
-    ((e, record { dark = dark_right _ _ c.dark; moved = pair_kept a b m n (from_synced a m la y) c.moved }), (y.size, c.moved.size))
+sync_first a b m n (Cut s) la lb (e, inl (c, q)) = (e, record { dark = dark_left _ _ c.dark; moved = pair_kept a b m n c.moved (from_same b n lb q) })
+sync_first a b m n (Cut s) la lb (e, inr (y, c)) = (e, record { dark = dark_right _ _ c.dark; moved = pair_kept a b m n (from_synced a m la y) c.moved })
 sync_first a b m n (Torn s) la lb d = absurd d
 
 first_moved : (a0 b0 a b : Meaning) → Lawful a0 → Lawful b0 → Synced a0 a → Synced b0 b → Moved (mirrored a0 b0) (Kept (mirrored a0 b0)) (mirrored a b)
 first_moved a0 b0 a b la lb y z = pair_kept a0 b0 a b (from_synced a0 a la y) (from_synced b0 b lb z)
 
-pub sync_mend : (a0 b0 a b m n : Meaning) (f : DeviceFault) → Lawful a0 → Lawful b0 → Synced a0 a × Synced b0 b → MendsAll a b (Err f) m n → BothSynced a0 b0 (Err (told_of 0 f)) m n
-sync_mend a0 b0 a b m n (OutOfRange s) la lb y d = absurd d
-sync_mend a0 b0 a b m n (Cut s) la lb y d =
-    ((refl, record { dark = d.0.dark; moved = after_moved _ (mirrored a b) _ (first_moved a0 b0 a b la lb y.0 y.1) d.0.moved }), (d.1 ∙ y.0.size, d.2 ∙ y.1.size))
-sync_mend a0 b0 a b m n (Torn s) la lb y d = absurd d
+-- what came of the mending, by the answer that is told of the sector 0
+pub sync_mend : (a0 b0 a b m n : Meaning) (r : Answer) (f : DeviceFault) → Lawful a0 → Lawful b0 → Synced a0 a × Synced b0 b → MendsAll a b r m n → told_below 0 r ≡ Err f → DidSync (mirrored a0 b0) (Err f) (mirrored m n)
+sync_mend a0 b0 a b m n (Ok u) f la lb y d e = cc
+sync_mend a0 b0 a b m n (Err (OutOfRange s)) f la lb y d e = absurd d
+sync_mend a0 b0 a b m n (Err (Cut s)) f la lb y d e =
+    subst (λ (r : Answer). DidSync (mirrored a0 b0) r (mirrored m n)) e (refl, record { dark = d.0.dark; moved = after_moved _ (mirrored a b) _ (first_moved a0 b0 a b la lb y.0 y.1) d.0.moved })
+sync_mend a0 b0 a b m n (Err (Torn s)) f la lb y d e = absurd d
+
+pub mended : (a b m n : Meaning) (r : Answer) (u : Unit {0}) → MendsAll a b r m n → told_below 0 r ≡ Ok u → Mended a b (min a.size b.size) m n
+mended a b m n (Ok v) u d e = d
+mended a b m n (Err f) u d e = cc
 
 level : (a0 b0 a b m n m' n' : Meaning) → Synced a0 a → Synced b0 b → Mended a b (min a.size b.size) m n → Synced m m' → Synced n n' → Level a0 b0 m' n'
 level a0 b0 a b m n m' n' ya yb d y z =
@@ -273,15 +274,11 @@ leveled a b m n la lb e f v =
       only = one;
     }
 
-pub sync_last : (a0 b0 a b m n m' n' : Meaning) (r : Answer) → Lawful a0 → Lawful b0 → Lawful a → Lawful b → Lawful m → Lawful n → Synced a0 a × Synced b0 b → Mended a b (min a.size b.size) m n → SyncsBoth m n r m' n' → BothSynced a0 b0 r m' n'
-sync_last a0 b0 a b m n m' n' (Ok u) la0 lb0 la lb lm ln y d w = let v = level a0 b0 a b m n m' n' y.0 y.1 d w.0 w.1 in (leveled a0 b0 m' n' la0 lb0 y.0.was_lit y.1.was_lit v, v)
+pub sync_last : (a0 b0 a b m n m' n' : Meaning) (r : Answer) → Lawful a0 → Lawful b0 → Lawful a → Lawful b → Lawful m → Lawful n → Synced a0 a × Synced b0 b → Mended a b (min a.size b.size) m n → SyncsBoth m n r m' n' → DidSync (mirrored a0 b0) r (mirrored m' n')
+sync_last a0 b0 a b m n m' n' (Ok u) la0 lb0 la lb lm ln y d w = leveled a0 b0 m' n' la0 lb0 y.0.was_lit y.1.was_lit (level a0 b0 a b m n m' n' y.0 y.1 d w.0 w.1)
 sync_last a0 b0 a b m n m' n' (Err (OutOfRange s)) la0 lb0 la lb lm ln y d w = absurd w
-sync_last a0 b0 a b m n m' n' (Err (Cut s)) la0 lb0 la lb lm ln y d (e, inl (c, q)) = (
-  (e, record { dark = dark_left _ _ c.dark; moved = after_moved _ (mirrored a b) _ (first_moved a0 b0 a b la0 lb0 y.0 y.1) (near_kept a b m n m' n' _ la lb d c.moved (from_same n n' ln q)) }),
-  (c.moved.size ∙ d.size_a ∙ y.0.size, ap (λ (z : Meaning). z.size) q ∙ d.size_b ∙ y.1.size),
-)
-sync_last a0 b0 a b m n m' n' (Err (Cut s)) la0 lb0 la lb lm ln y d (e, inr (w, c)) = (
-  (e, record { dark = dark_right _ _ c.dark; moved = after_moved _ (mirrored a b) _ (first_moved a0 b0 a b la0 lb0 y.0 y.1) (near_kept a b m n m' n' _ la lb d (from_synced m m' lm w) c.moved) }),
-  (w.size ∙ d.size_a ∙ y.0.size, c.moved.size ∙ d.size_b ∙ y.1.size),
-)
+sync_last a0 b0 a b m n m' n' (Err (Cut s)) la0 lb0 la lb lm ln y d (e, inl (c, q)) =
+    (e, record { dark = dark_left _ _ c.dark; moved = after_moved _ (mirrored a b) _ (first_moved a0 b0 a b la0 lb0 y.0 y.1) (near_kept a b m n m' n' _ la lb d c.moved (from_same n n' ln q)) })
+sync_last a0 b0 a b m n m' n' (Err (Cut s)) la0 lb0 la lb lm ln y d (e, inr (w, c)) =
+    (e, record { dark = dark_right _ _ c.dark; moved = after_moved _ (mirrored a b) _ (first_moved a0 b0 a b la0 lb0 y.0 y.1) (near_kept a b m n m' n' _ la lb d (from_synced m m' lm w) c.moved) })
 sync_last a0 b0 a b m n m' n' (Err (Torn s)) la0 lb0 la lb lm ln y d w = absurd w

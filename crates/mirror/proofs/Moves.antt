@@ -1,11 +1,11 @@
 -- Two halves that each moved within what they may hold, taken together.
-use Rattle.std.proofs.Common.{◌≡◌, ℕ, ◌<◌, ◌≤◌, min, Bool, true, false, ◌&&◌, ◌⊎◌, List, Ok, Err, sym, refl, ap, ◌∙◌, subst, inl, inr, ⊎_elim, arith}
+use Rattle.std.proofs.Common.{◌≡◌, ℕ, ◌<◌, min, Bool, true, false, ◌&&◌, ◌⊎◌, List, Ok, Err, sym, refl, ap, ◌∙◌, subst, inl, inr, ⊎_elim, arith}
 use Rattle.std.proofs.lemmas.Bool.{or_left, or_right, or_cases, and_from, and_parts, and_right, cases_eq}
 use Rattle.device.specs.Meaning.{Meaning, Reading, bytes, torn, Contents, ◌∈◌, Lawful}
 use Rattle.device.specs.declared.fault.DeviceFault.{DeviceFault}
 use Rattle.device.specs.declared.fault.DeviceFault.TheVariants.{OutOfRange, Cut, Torn}
-use Rattle.device.specs.Calls.{Answer, DidRead, DidWrite, FoundTorn, Moved, WasCut, Written, Synced, Woken, Kept, Joined}
-use Rattle.mirror.specs.Halves.{either, both, mirrored, either_in, ReadHalves, WroteHalves}
+use Rattle.device.specs.Calls.{Answer, DidRead, DidReadWhole, DidWrite, Filled, FoundTorn, Moved, WasCut, Written, Synced, Woken, Kept, Joined}
+use Rattle.mirror.specs.Halves.{either, both, mirrored, either_in}
 
 pub still : (m : Meaning) → Lawful m → Moved m (Kept m) m
 still m l = record { size = refl; left = l.among; gains = λ s h x i. i }
@@ -101,83 +101,49 @@ cut_a a b m k c = record { dark = dark_left _ _ c.dark; moved = pair_kept a b m 
 cut_b : (a b m n : Meaning) → Moved a (Kept a) m → WasCut b (Kept b) n → WasCut (mirrored a b) (Kept (mirrored a b)) (mirrored m n)
 cut_b a b m n p c = record { dark = dark_right _ _ c.dark; moved = pair_kept a b m n p c.moved }
 
--- what a call did to the mirror and to its halves
-abbrev pub BothRead : (a b : Meaning) → ℕ → List ℕ → Answer → List ℕ → (m n : Meaning) → Type 0
-BothRead a b at old r new m n = DidRead (mirrored a b) at old r new (mirrored m n) × ReadHalves a b at r new m n
+-- a read in the dark, the answer of half A, and the answer of half B, where A is torn
+pub read_dark : (a b : Meaning) (at : ℕ) (old : List ℕ) → Lawful a → Lawful b → at < min a.size b.size → (a.lit && b.lit) ≡ false → DidRead (mirrored a b) at old (Err (Cut at)) old (mirrored a b)
+read_dark a b at old l k h e = (refl, h, half_dark a b l k e, refl)
 
-abbrev pub BothWrote : (a b : Meaning) → ℕ → List ℕ → Answer → (m n : Meaning) → Type 0
-BothWrote a b at new r m n = DidWrite (mirrored a b) at new r (mirrored m n) × WroteHalves a b at new r m n
+pub read_first : (a b m : Meaning) (at : ℕ) (new : List ℕ) → at < min a.size b.size → b.lit ≡ true → Filled a at new m → Filled (mirrored a b) at new (mirrored m b)
+read_first a b m at new h e d = record { within = h; was_lit = and_from _ _ d.was_lit e; here = either_bytes _ _ new d.here; same = ap (λ (z : Meaning). mirrored z b) d.same }
 
-pub read_past : (a b : Meaning) (at : ℕ) (old : List ℕ) → min a.size b.size ≤ at → BothRead a b at old (Err (OutOfRange at)) old a b
-read_past a b at old h = ((refl, h, refl, refl), (refl, refl))
+pub read_refused : (a b m : Meaning) (at : ℕ) (old : List ℕ) (f : DeviceFault) → Lawful b → at < min a.size b.size → DidReadWhole a at (Err f) m → DidRead (mirrored a b) at old (Err f) old (mirrored m b)
+read_refused a b m at old (OutOfRange s) k h d = let z = d.1 in absurd (omega arith)
+read_refused a b m at old (Cut s) k h d = (d.0, h, cut_a a b m k d.2, refl)
+read_refused a b m at old (Torn s) k h d = absurd d
 
-pub read_dark : (a b : Meaning) (at : ℕ) (old : List ℕ) → Lawful a → Lawful b → at < min a.size b.size → (a.lit && b.lit) ≡ false → BothRead a b at old (Err (Cut at)) old a b
-read_dark a b at old l k h e = ((refl, h, half_dark a b l k e, refl), inl (e, refl, refl))
-
--- the answer of half A
--- a fault of another kind is not that the sector is torn
-pub past_not_torn : (f : DeviceFault) (x : ℕ) → f ≡ OutOfRange x → (s : ℕ) → ◌≡◌ {A = Answer} (Err f) (Err (Torn s)) → ⊥
-past_not_torn f x k s e = let z : ◌≡◌ {A = ℕ} 0 1 = cc in omega arith
-
-pub cut_not_torn : (f : DeviceFault) (x : ℕ) → f ≡ Cut x → (s : ℕ) → ◌≡◌ {A = Answer} (Err f) (Err (Torn s)) → ⊥
-cut_not_torn f x k s e = let z : ◌≡◌ {A = ℕ} 0 1 = cc in omega arith
-
-pub read_first : (a b m : Meaning) (at : ℕ) (old : List ℕ) (r : Answer) (new : List ℕ) → Lawful b → at < min a.size b.size → b.lit ≡ true → ((s : ℕ) → r ≡ Err (Torn s) → ⊥) → DidRead a at old r new m → BothRead a b at old r new m b
-read_first a b m at old (Ok u) new k h e t d =
-    (record { within = h; was_lit = and_from _ _ d.was_lit e; here = either_bytes _ _ new d.here; same = ap (λ (z : Meaning). mirrored z b) d.same }, (inl d.here, d.same, refl))
-read_first a b m at old (Err (OutOfRange s)) new k h e t d = let z = d.1 in absurd (omega arith)
-read_first a b m at old (Err (Cut s)) new k h e t d = ((d.0, h, cut_a a b m k d.2, d.3), inr (inl (d.2, refl)))
-read_first a b m at old (Err (Torn s)) new k h e t d = absurd (t s refl)
-
--- the answer of half B, where A is torn
-read_second : (a b m n : Meaning) (at : ℕ) (old : List ℕ) (r : Answer) (new : List ℕ) → Lawful a → at < min a.size b.size → FoundTorn a at m → DidRead b at old r new n → BothRead a b at old r new m n
-read_second a b m n at old (Ok u) new l h f d = (
-  record { within = h; was_lit = and_from _ _ f.was_lit d.was_lit; here = either_torn _ _ _ f.here d.here; same = ap (λ (z : Meaning). mirrored z n) f.same ∙ ap (mirrored a) d.same },
-  (inr (f.here, d.here), f.same, d.same),
-)
+pub read_second : (a b m n : Meaning) (at : ℕ) (old : List ℕ) (r : Answer) (new : List ℕ) → Lawful a → at < min a.size b.size → FoundTorn a at m → DidRead b at old r new n → DidRead (mirrored a b) at old r new (mirrored m n)
+read_second a b m n at old (Ok u) new l h f d =
+    record { within = h; was_lit = and_from _ _ f.was_lit d.was_lit; here = either_torn _ _ _ f.here d.here; same = ap (λ (z : Meaning). mirrored z n) f.same ∙ ap (mirrored a) d.same }
 read_second a b m n at old (Err (OutOfRange s)) new l h f d = let z = d.1 in absurd (omega arith)
-read_second a b m n at old (Err (Cut s)) new l h f d = ((d.0, h, cut_b a b m n (from_same a m l f.same) d.2, d.3), inr (inr (f.here, f.same, d.2)))
-read_second a b m n at old (Err (Torn s)) new l h f d = (
-  (d.0, record { within = h; was_lit = and_from _ _ f.was_lit d.1.was_lit; here = either_torn _ _ _ f.here d.1.here; same = ap (λ (z : Meaning). mirrored z n) f.same ∙ ap (mirrored a) d.1.same }, d.2),
-  (f.same, d.1.same),
-)
+read_second a b m n at old (Err (Cut s)) new l h f d = (d.0, h, cut_b a b m n (from_same a m l f.same) d.2, d.3)
+read_second a b m n at old (Err (Torn s)) new l h f d =
+    (d.0, record { within = h; was_lit = and_from _ _ f.was_lit d.1.was_lit; here = either_torn _ _ _ f.here d.1.here; same = ap (λ (z : Meaning). mirrored z n) f.same ∙ ap (mirrored a) d.1.same }, d.2)
 
--- told of a fault that is `Torn`
-pub read_past_torn : (a b m n : Meaning) (at s : ℕ) (old mid : List ℕ) (f : DeviceFault) (r : Answer) (new : List ℕ) → Lawful a → at < min a.size b.size → f ≡ Torn s → DidRead a at old (Err f) mid m → DidRead b at mid r new n → BothRead a b at old r new m n
-read_past_torn a b m n at s old mid f r new l h e d d' =
-    let t : DidRead a at old (Err (Torn s)) mid m = subst (λ (g : DeviceFault). DidRead a at old (Err g) mid m) e d in
-    subst (λ (o : List ℕ). BothRead a b at o r new m n) t.2 (read_second a b m n at mid r new l h t.1 d')
+-- a write in the dark, one that A refused, and one that A took
+pub write_dark : (a b : Meaning) (at : ℕ) (new : List ℕ) → Lawful a → Lawful b → at < min a.size b.size → (a.lit && b.lit) ≡ false → DidWrite (mirrored a b) at new (Err (Cut at)) (mirrored a b)
+write_dark a b at new l k h e = (refl, h, half_dark_joined a b at new l k e)
 
-pub write_past : (a b : Meaning) (at : ℕ) (new : List ℕ) → min a.size b.size ≤ at → BothWrote a b at new (Err (OutOfRange at)) a b
-write_past a b at new h = ((refl, h, refl), (refl, refl))
-
-pub write_dark : (a b : Meaning) (at : ℕ) (new : List ℕ) → Lawful a → Lawful b → at < min a.size b.size → (a.lit && b.lit) ≡ false → BothWrote a b at new (Err (Cut at)) a b
-write_dark a b at new l k h e = ((refl, h, half_dark_joined a b at new l k e), inl (e, refl, refl))
-
--- a write that A refused, and one that A took
-pub write_first : (a b m : Meaning) (at : ℕ) (new : List ℕ) (f : DeviceFault) → Lawful b → at < min a.size b.size → DidWrite a at new (Err f) m → BothWrote a b at new (Err f) m b
+pub write_first : (a b m : Meaning) (at : ℕ) (new : List ℕ) (f : DeviceFault) → Lawful b → at < min a.size b.size → DidWrite a at new (Err f) m → DidWrite (mirrored a b) at new (Err f) (mirrored m b)
 write_first a b m at new (OutOfRange s) k h d = let z = d.1 in absurd (omega arith)
-write_first a b m at new (Cut s) k h d =
-    ((d.0, h, record { dark = dark_left _ _ d.2.dark; moved = pair_joined a b m b at new d.2.moved (joins b b at new (still b k)) }), inr (inl (d.2, refl)))
+write_first a b m at new (Cut s) k h d = (d.0, h, record { dark = dark_left _ _ d.2.dark; moved = pair_joined a b m b at new d.2.moved (joins b b at new (still b k)) })
 write_first a b m at new (Torn s) k h d = absurd d
 
-pub write_second : (a b m n : Meaning) (at : ℕ) (new : List ℕ) (r : Answer) → Lawful a → Lawful b → at < min a.size b.size → Written a at new m → DidWrite b at new r n → BothWrote a b at new r m n
+pub write_second : (a b m n : Meaning) (at : ℕ) (new : List ℕ) (r : Answer) → Lawful a → Lawful b → at < min a.size b.size → Written a at new m → DidWrite b at new r n → DidWrite (mirrored a b) at new r (mirrored m n)
 write_second a b m n at new (Ok u) l k h w d =
-    let p = pair_joined a b m n at new (from_written a m at new l w) (from_written b n at new k d) in (
-      record {
-        within = h;
-        was_lit = and_from _ _ w.was_lit d.was_lit;
-        size = p.size;
-        lit = and_from _ _ w.lit d.lit;
-        here = either_bytes _ _ new w.here;
-        others = λ s i x. let e = w.others s (omega arith) x in let f = d.others s (omega arith) x in cc;
-        gains = p.gains;
-      },
-      (w, d),
-    )
+    let p = pair_joined a b m n at new (from_written a m at new l w) (from_written b n at new k d) in
+    record {
+      within = h;
+      was_lit = and_from _ _ w.was_lit d.was_lit;
+      size = p.size;
+      lit = and_from _ _ w.lit d.lit;
+      here = either_bytes _ _ new w.here;
+      others = λ s i x. let e = w.others s (omega arith) x in let f = d.others s (omega arith) x in cc;
+      gains = p.gains;
+    }
 write_second a b m n at new (Err (OutOfRange s)) l k h w d = let z = d.1 in absurd (omega arith)
-write_second a b m n at new (Err (Cut s)) l k h w d =
-    ((d.0, h, record { dark = dark_right _ _ d.2.dark; moved = pair_joined a b m n at new (from_written a m at new l w) d.2.moved }), inr (inr (w, d.2)))
+write_second a b m n at new (Err (Cut s)) l k h w d = (d.0, h, record { dark = dark_right _ _ d.2.dark; moved = pair_joined a b m n at new (from_written a m at new l w) d.2.moved })
 write_second a b m n at new (Err (Torn s)) l k h w d = absurd d
 
 pub woken_both : (a b m n : Meaning) → Woken a m → Woken b n → Woken (mirrored a b) (mirrored m n)

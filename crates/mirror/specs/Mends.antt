@@ -1,18 +1,9 @@
 -- The steps of a mirror's sync. Assumes nothing.
-use Rattle.std.specs.Prelude.{◌≡◌, ℕ, ◌<◌, ◌≤◌, min, Bool, true, false, ◌⊎◌, List, Ok, Err, Result, ◌≢◌}
-use Rattle.device.specs.declared.fault.DeviceFault.{DeviceFault}
+use Rattle.std.specs.Prelude.{◌≡◌, ℕ, ◌<◌, ◌≤◌, min, ◌⊎◌, List, Ok, Err, ◌≢◌}
 use Rattle.device.specs.declared.fault.DeviceFault.TheVariants.{OutOfRange, Cut, Torn}
 use Rattle.device.specs.Calls.{Answer, WasCut, Written, Synced, Kept, Joined}
 use Rattle.device.specs.Meaning.{Meaning, Reading, bytes, torn, ◌∈◌}
 use Rattle.mirror.specs.Halves.{either, mirrored}
-
--- a read that tells whether there were bytes
-abbrev pub Looks : Meaning → ℕ → Result Bool DeviceFault → List ℕ → Meaning → Type 0
-Looks a s (Ok true) new m = (a.reads s ≡ bytes new) × (m ≡ a)
-Looks a s (Ok false) new m = (a.reads s ≡ torn) × (m ≡ a)
-Looks a s (Err (OutOfRange t)) new m = a.size ≤ s
-Looks a s (Err (Cut t)) new m = WasCut a (Kept a) m
-Looks a s (Err (Torn t)) new m = ⊥
 
 -- both halves synced, A first
 abbrev pub SyncsBoth : (a b : Meaning) → Answer → (m n : Meaning) → Type 0

@@ -9,26 +9,20 @@ ghost use Rattle.std.specs.Prelude.{◌≡◌};
 ghost use Rattle.outcomes.specs.Outcomes.{Observed, RanAndWoke, SawSector};
 
 use device::run::{Operation, run};
-use device::{Device, DeviceFault};
+use device::{Device, read_whole};
 pub use seen::{Outcome, Seen, Tally};
 
 pub mod seen;
 
+// `kept` relates two moments, which no type can hold.
 // Runs the operations in order until one is cut, and wakes the device; whether one was cut.
 fn run_and_wake<D: Device>(device: &mut D, script: &[Operation]) -> bool
     ensures did { RanAndWoke (D.meaning device.old) script.now result (D.meaning device.new) }
     ensures kept { D.lender device.new ≡ D.lender device.old }
 {
-    match run(device, script) {
-        Ok(()) => {
-            device.wake();
-            false
-        }
-        Err(_) => {
-            device.wake();
-            true
-        }
-    }
+    let cut = run(device, script).is_err();
+    device.wake();
+    cut
 }
 
 // What a sector reads as, by its first byte.
@@ -36,14 +30,10 @@ fn see<D: Device>(device: &mut D, sector: usize) -> Seen
     ensures did { SawSector (D.meaning device.old) sector result (D.meaning device.new) }
     ensures kept { D.lender device.new ≡ D.lender device.old }
 {
-    let mut buffer = [0; 512];
-    match device.read(sector, &mut buffer) {
-        Ok(()) => Seen::Byte(buffer[0]),
-        Err(fault) => match fault {
-            DeviceFault::OutOfRange(_) => Seen::Unread,
-            DeviceFault::Cut(_) => Seen::Unread,
-            DeviceFault::Torn(_) => Seen::Torn,
-        },
+    match read_whole(device, sector) {
+        Ok(Some(bytes)) => Seen::Byte(bytes[0]),
+        Ok(None) => Seen::Torn,
+        Err(_) => Seen::Unread,
     }
 }
 

@@ -1,5 +1,5 @@
 //! What was seen, and how often.
-ghost use Rattle.std.specs.Prelude.{cond, ◌≡◌};
+ghost use Rattle.std.specs.Prelude.{◌≡◌};
 ghost use Rattle.outcomes.specs.Outcomes.{seen_is_new, seen_is_old, letter_of, mixed, noted, torn_of};
 
 /// A sector, as it was read.
@@ -27,31 +27,19 @@ impl Seen {
     fn is_old(self) -> bool
         ensures { result ≡ seen_is_old self }
     {
-        match self {
-            Seen::Byte(b) => b < 97,
-            Seen::Torn => false,
-            Seen::Unread => false,
-        }
+        matches!(self, Seen::Byte(b) if b < 97)
     }
 
     fn is_new(self) -> bool
         ensures { result ≡ seen_is_new self }
     {
-        match self {
-            Seen::Byte(b) => b >= 97,
-            Seen::Torn => false,
-            Seen::Unread => false,
-        }
+        matches!(self, Seen::Byte(b) if b >= 97)
     }
 
     fn torn(self) -> u32
         ensures { result ≡ torn_of self }
     {
-        match self {
-            Seen::Byte(_) => 0,
-            Seen::Torn => 1,
-            Seen::Unread => 0,
-        }
+        u32::from(matches!(self, Seen::Torn))
     }
 }
 
@@ -68,13 +56,7 @@ impl Outcome {
     fn mixed(self) -> bool
         ensures { result ≡ mixed self }
     {
-        if self.first.is_old() {
-            return self.second.is_new();
-        }
-        if self.first.is_new() {
-            return self.second.is_old();
-        }
-        false
+        self.first.is_old() && self.second.is_new() || self.first.is_new() && self.second.is_old()
     }
 }
 
@@ -100,17 +82,11 @@ impl Tally {
     pub fn note(&mut self, outcome: Outcome)
         ensures { self.new ≡ noted outcome self.old }
     {
-        self.cuts = self.cuts.saturating_add(one_if(outcome.cut));
-        self.mixtures = self.mixtures.saturating_add(one_if(outcome.mixed()));
+        self.cuts = self.cuts.saturating_add(u32::from(outcome.cut));
+        self.mixtures = self.mixtures.saturating_add(u32::from(outcome.mixed()));
         self.torn = self
             .torn
             .saturating_add(outcome.first.torn())
             .saturating_add(outcome.second.torn());
     }
-}
-
-fn one_if(test: bool) -> u32
-    ensures { result ≡ cond test 1 0 }
-{
-    if test { 1 } else { 0 }
 }

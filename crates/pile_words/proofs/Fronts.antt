@@ -1,5 +1,5 @@
 -- Words read from the front, and fuses read from a word.
-use Rattle.std.proofs.Common.{◌≡◌, ℕ, ◌-◌, ◌<◌, ◌≤◌, List, [], ◌∷◌, ◌++◌, map, length, get_or, take, drop, sym, refl, ap, ◌∙◌, subst, append_assoc, arith, Bor}
+use Rattle.std.proofs.Common.{◌≡◌, ℕ, ◌-◌, ◌≤◌, List, [], ◌∷◌, ◌++◌, map, length, get_or, take, drop, sym, ap, ◌∙◌, subst, append_assoc, arith, Bor}
 use Rattle.std.proofs.lemmas.List.{take_all}
 use Rattle.image.specs.declared.fuse.Fuse.{Fuse}
 use Rattle.pile_words.specs.Spellings.{SpellsFuse, SpellsFuses}
@@ -8,10 +8,6 @@ pub front : (d : Bor (List ℕ)) (xs : List (Bor (List ℕ))) (w : List ℕ) →
     map (λ x. x.now) xs ≡ w ∷ map (λ x. x.now) (take (length xs - 1) (drop 1 xs))
 front d [] w h e = absurd (omega arith)
 front d (x ∷ xs) w h e = ap (λ v. v ∷ map (λ x. x.now) xs) e ∙ ap (λ ys. w ∷ map (λ x. x.now) ys) (sym (take_all _ xs (omega arith)))
-
-pub none : (xs : List (Bor (List ℕ))) → length xs < 1 → map (λ x. x.now) xs ≡ []
-none [] h = refl
-none (x ∷ xs) h = absurd (omega arith)
 
 -- one fuse more
 pub one_more : (text left a b : List ℕ) (gs hs : List Fuse) (g : Fuse) → ((f : Fuse) (fs : List Fuse) → SpellsFuses left (f ∷ fs) → SpellsFuses text (gs ++ (f ∷ fs))) →

@@ -1,8 +1,7 @@
 -- The words that spell a pile: its devices from the top down. Assumes nothing.
 use Rattle.std.specs.Prelude.{◌≡◌, ℕ, ◌⊎◌, List, [], ◌∷◌, ◌++◌, map, vec_items, codes}
-use Rattle.std.specs.Str.Parse.{IsNumeral, digits_value, without_leading_plus}
 use Rattle.image.specs.declared.fuse.Fuse.{Fuse}
-use Rattle.pile_words.specs.declared.words.Words.{Words}
+use Rattle.pile_words.specs.declared.unread.Words.{Words}
 use Rattle.piles.specs.declared.shape.DriveKind.{DriveKind}
 use Rattle.piles.specs.declared.shape.DriveKind.TheVariants.{Direct, WriteBack}
 use Rattle.piles.specs.declared.shape.DriveShape.{DriveShape}
@@ -10,14 +9,11 @@ use Rattle.piles.specs.declared.shape.PartShape.{PartShape}
 use Rattle.piles.specs.declared.shape.WholeShape.{WholeShape}
 use Rattle.piles.specs.declared.shape.WholeShape.TheVariants.{Part, Mirror}
 use Rattle.piles.specs.declared.shape.PileShape.{PileShape}
+use Rattle.words.specs.Spellings.{Writes}
 
 -- the words that are still to be read
 abbrev pub still : Words → List (List ℕ)
 still w = map (λ x. x.now) w.left.now
-
--- the text is a decimal numeral, with or without a plus, and n is its number
-abbrev pub Writes : List ℕ → ℕ → Type 0
-Writes bs n = IsNumeral 10 (without_leading_plus bs) × (digits_value 10 (without_leading_plus bs) ≡ n)
 
 -- a fuse: its count and its plan, with a colon between them
 abbrev pub SpellsFuse : List ℕ → Fuse → Type 0
@@ -30,6 +26,10 @@ SpellsFuses w (f ∷ []) = SpellsFuse w f
 SpellsFuses w (f ∷ (g ∷ gs)) = (a : List ℕ) × (b : List ℕ) × (w ≡ a ++ (44 ∷ b)) × SpellsFuse a f × SpellsFuses b (g ∷ gs)
 
 -- Each relation below is of the words, what they spell, and the words that are left.
+
+-- the first word is a number
+abbrev pub NextWrites : List (List ℕ) → ℕ → List (List ℕ) → Type 0
+NextWrites ws n left = (w : List ℕ) × (ws ≡ w ∷ left) × Writes w n
 
 abbrev pub SpellsCuts : List (List ℕ) → List Fuse → List (List ℕ) → Type 0
 SpellsCuts ws fs left = ((fs ≡ []) × (left ≡ ws)) ⊎ ((w : List ℕ) × (ws ≡ codes "cuts" ∷ (w ∷ left)) × SpellsFuses w fs)

@@ -1,9 +1,11 @@
 //! Why words are no pile.
 ghost use Rattle.std.specs.Prelude.{◌≡◌, Some};
 ghost use Rattle.pile_words.specs.Faults.{fault_text};
+ghost use Rattle.pile_words.specs.declared.fault.PileFault.TheVariants.{Number};
 
 use std::alloc::{AllocError, AllocFailed};
 use std::fmt;
+use words::NoNumber;
 
 #[derive(Clone, Copy, Debug)]
 pub enum PileFault {
@@ -41,6 +43,14 @@ impl fmt::Display for PileFault {
             PileFault::LeftOver => write!(f, "words are left over after the pile"),
             PileFault::NoMemory => write!(f, "there is no memory left"),
         }
+    }
+}
+
+impl From<NoNumber> for PileFault {
+    ghost from_gives = { λ n f. f ≡ Number n.0 };
+
+    fn from(fault: NoNumber) -> PileFault {
+        PileFault::Number(fault.0)
     }
 }
 

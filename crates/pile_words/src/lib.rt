@@ -12,4 +12,4 @@ pub use reading::pile_of;
 
 pub mod fault;
 pub mod reading;
-mod words;
+mod unread;

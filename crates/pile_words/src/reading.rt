@@ -1,12 +1,13 @@
 //! Piles from words.
 ghost use Rattle.std.specs.Prelude.{◌≡◌, [], ◌∷◌, map, IfOk, MatchBool};
-ghost use Rattle.pile_words.specs.Spellings.{SpellsBase, SpellsCuts, SpellsDrive, SpellsFuse, SpellsFuses, SpellsPart, SpellsPile, SpellsWhole, Writes, kind_word, still};
+ghost use Rattle.pile_words.specs.Spellings.{SpellsBase, SpellsCuts, SpellsDrive, SpellsFuse, SpellsFuses, SpellsPart, SpellsPile, SpellsWhole, NextWrites, kind_word, still};
 
 use crate::PileFault;
-use crate::words::Words;
+use crate::unread::Words;
 use image::{Fuse, Plan};
 use piles::{DriveKind, DriveShape, PartShape, PileShape, WholeShape};
 use std::alloc::Global;
+use words::number;
 
 impl<'t> Words<'_, 't> {
     // Reads the next word, which is to say what is named.
@@ -20,6 +21,13 @@ impl<'t> Words<'_, 't> {
             }
             [] => Err(PileFault::Missing(what)),
         }
+    }
+
+    // Reads the next word as a number, which is to say what is named.
+    fn number(&mut self, what: &'static str) -> Result<usize, PileFault>
+        ensures { IfOk result (λ n. NextWrites (still self.old) n (still self.new)) }
+    {
+        Ok(number(self.next(what)?, what)?)
     }
 
     // Reads the next word where it is this one.
@@ -36,38 +44,19 @@ impl<'t> Words<'_, 't> {
     }
 }
 
-fn number_of(text: &str, what: &'static str) -> Result<usize, PileFault>
-    ensures { IfOk result (λ n. Writes text.now n) }
-{
-    match text.parse::<usize>() {
-        Ok(n) => Ok(n),
-        Err(_) => Err(PileFault::Number(what)),
-    }
-}
-
-fn small_number_of(text: &str, what: &'static str) -> Result<u32, PileFault>
-    ensures { IfOk result (λ n. Writes text.now n) }
-{
-    match text.parse::<u32>() {
-        Ok(n) => Ok(n),
-        Err(_) => Err(PileFault::Number(what)),
-    }
-}
-
 fn fuse_of(text: &str) -> Result<Fuse, PileFault>
     ensures { IfOk result (λ f. SpellsFuse text.now f) }
 {
-    let Some((count, plan)) = text.split_once(':') else {
-        return Err(PileFault::NoCuts);
-    };
-    let left = small_number_of(count, "the count of a cut")?;
-    let bits = small_number_of(plan, "the plan of a cut")?;
+    let (count, plan) = text.split_once(':').ok_or(PileFault::NoCuts)?;
+    let left = number(count, "the count of a cut")?;
+    let bits = number(plan, "the plan of a cut")?;
     Ok(Fuse {
         left,
         plan: Plan { bits },
     })
 }
 
+// No FromStr: it would have to stand beside DriveKind, in the crate of the piles, which knows no words.
 fn kind_of(word: &str) -> Result<DriveKind, PileFault>
     ensures { IfOk result (λ k. word.now ≡ kind_word k) }
 {
@@ -81,6 +70,7 @@ fn kind_of(word: &str) -> Result<DriveKind, PileFault>
 }
 
 // One or more fuses, with commas between them.
+// A loop over `split_once`, as the spelling says it: the definition is of the first comma and what follows.
 fn fuses_of(heap: Global, text: &str) -> Result<Vec<Fuse>, PileFault>
     ensures { IfOk result (λ fs. SpellsFuses text.now fs.items) }
 {
@@ -108,15 +98,9 @@ fn drive_of(heap: Global, words: &mut Words) -> Result<DriveShape, PileFault>
     ensures { IfOk result (λ d. SpellsDrive (still words.old) d (still words.new)) }
 {
     let kind = kind_of(words.next("a device")?)?;
-    let sectors = number_of(
-        words.next("the number of sectors")?,
-        "the number of sectors",
-    )?;
+    let sectors = words.number("the number of sectors")?;
     let fuses = cuts_of(heap, words)?;
-    match DriveShape::new(kind, sectors, fuses) {
-        Some(shape) => Ok(shape),
-        None => Err(PileFault::TooLarge),
-    }
+    DriveShape::new(kind, sectors, fuses).ok_or(PileFault::TooLarge)
 }
 
 // The base of an offset, 0 where there is none.
@@ -126,10 +110,7 @@ fn base_of(words: &mut Words) -> Result<usize, PileFault>
     if !words.take("offset") {
         return Ok(0);
     }
-    number_of(
-        words.next("the base of an offset")?,
-        "the base of an offset",
-    )
+    words.number("the base of an offset")
 }
 
 fn part_of(heap: Global, words: &mut Words) -> Result<PartShape, PileFault>

@@ -1,6 +1,6 @@
 -- What the drive under a pile means, and the memory that it stands on. Assumes nothing.
 use Rattle.std.specs.Borrow.{GName}
-use Rattle.std.specs.Prelude.{◌⊎◌, [], vec_items}
+use Rattle.std.specs.Prelude.{◌⊎◌, []}
 use Rattle.device.specs.Meaning.{Meaning, Lawful}
 use Rattle.drives.specs.Drives.{State, state, meaning_of, meaning_lawful}
 use Rattle.drives.specs.declared.schedule.Schedule.{Schedule}
@@ -14,7 +14,7 @@ abbrev pub direct_state : Schedule Plain → State
 direct_state s = state (λ p. p.image.now) (λ p. []) s.drive
 
 abbrev pub write_back_state : Schedule Cached → State
-write_back_state s = state (λ p. p.image.now) (λ p. vec_items p.queue.items) s.drive
+write_back_state s = state (λ p. p.image.now) (λ p. p.queue.items.items) s.drive
 
 abbrev pub base_meaning : Base → Meaning
 base_meaning b = meant_by (λ s. meaning_of (direct_state s)) (λ s. meaning_of (write_back_state s)) b.0

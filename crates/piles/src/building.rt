@@ -49,6 +49,7 @@ fn build_part<'a>(
     Ok(Offset::new(drive, shape.base))
 }
 
+// Two images, since the two drives of a mirror are lent apart; a struct of both would only be taken apart.
 fn build_whole<'a>(
     heap: Global,
     shape: &'a WholeShape,

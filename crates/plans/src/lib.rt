@@ -30,16 +30,15 @@ mod tests {
         }
     }
 
-    // What a sector reads as: its first byte, or 255 for torn, 254 for a cut and 253 for past the size.
+    // What a sector reads as: its first byte, or 255 for torn, 254 for a cut and 253 for past the size. Numbers, and no enum:
+    // they are the values of the tests, which a rule of the project keeps as they are.
     fn peek<D: Device>(device: &mut D, sector: usize) -> u8 {
         let mut buffer = [0; 512];
         match device.read(sector, &mut buffer) {
             Ok(()) => buffer[0],
-            Err(fault) => match fault {
-                DeviceFault::OutOfRange(_) => 253,
-                DeviceFault::Cut(_) => 254,
-                DeviceFault::Torn(_) => 255,
-            },
+            Err(DeviceFault::OutOfRange(_)) => 253,
+            Err(DeviceFault::Cut(_)) => 254,
+            Err(DeviceFault::Torn(_)) => 255,
         }
     }
 

@@ -1,2 +1,3 @@
 pub mod Spellings
+pub mod Markets
 pub mod Scripts

@@ -5,14 +5,10 @@ use Rattle.piles.specs.declared.shape.PileShape.{PileShape}
 use Rattle.records.specs.declared.numbers.HouseNumber.{HouseNumber}
 use Rattle.runner.specs.declared.script.Call.{Call}
 use Rattle.words.specs.Spellings.{Writes}
+use Rattle.play_words.specs.Markets.{market_word}
 use Rattle.play_words.specs.Spellings.{SpellsCall}
 use Rattle.play_words.specs.declared.script.MarketKind.{MarketKind}
-use Rattle.play_words.specs.declared.script.MarketKind.TheVariants as kind
 use Rattle.play_words.specs.declared.script.Reader.{Reader}
-
-abbrev pub market_word : MarketKind → List ℕ
-market_word kind.Book = codes "book"
-market_word kind.Call = codes "call"
 
 -- the house, the market or the device is said, which was not before
 abbrev pub SaysHouse : List ℕ → Reader → Reader → Type 0

@@ -1,24 +1,14 @@
 //! Calls from words.
 ghost use Rattle.std.specs.Prelude.{◌<◌, map, IfOk};
-ghost use Rattle.words.specs.Spellings.{Writes};
 ghost use Rattle.play_words.specs.Spellings.{Stages, Lends, SpellsCall, SpellsDigit, SpellsByte, SpellsBytes};
 
 use crate::faults::PlayFault;
 use runner::script::Call;
 use std::alloc::Global;
-use words::command_of;
+use words::{command_of, number};
 
 /// How many notices the list that is lent has room for, where a script does not say.
 pub const ROOM: usize = 1024;
-
-fn number_of(text: &str, what: &'static str) -> Result<usize, PlayFault>
-    ensures { IfOk result (λ n. Writes text.now n) }
-{
-    match text.parse::<usize>() {
-        Ok(n) => Ok(n),
-        Err(_) => Err(PlayFault::Number(what)),
-    }
-}
 
 fn digit_of(byte: u8) -> Result<u8, PlayFault>
     ensures spells { IfOk result (λ n. SpellsDigit byte n) }
@@ -78,7 +68,7 @@ fn room_of(words: &[&str], form: &'static str) -> Result<usize, PlayFault>
 {
     match words {
         [] => Ok(ROOM),
-        [length] => number_of(length, "length of the list"),
+        [length] => Ok(number(length, "length of the list")?),
         _ => Err(PlayFault::Form(form)),
     }
 }
@@ -91,12 +81,12 @@ pub fn call_of(heap: Global, words: &[&str]) -> Result<Call, PlayFault>
         ["stage", words @ ..] => Ok(Call::Stage(stage_of(heap, words)?)),
         ["write"] => Ok(Call::Write),
         ["sync", ticket, words @ ..] => {
-            let ticket = number_of(ticket, "ticket")?;
+            let ticket = number(ticket, "ticket")?;
             let room = room_of(words, "sync TICKET [LENGTH]")?;
             Ok(Call::Sync { ticket, room })
         }
-        ["deliver", receipt] => Ok(Call::Deliver(number_of(receipt, "receipt")?)),
-        ["shelve", receipt] => Ok(Call::Shelve(number_of(receipt, "receipt")?)),
+        ["deliver", receipt] => Ok(Call::Deliver(number(receipt, "receipt")?)),
+        ["shelve", receipt] => Ok(Call::Shelve(number(receipt, "receipt")?)),
         ["snapshot"] => Ok(Call::Snapshot),
         ["restart"] => Ok(Call::Restart),
         ["open"] => Ok(Call::Open),

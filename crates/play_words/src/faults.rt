@@ -1,8 +1,11 @@
 //! Why a line of a script is refused.
+ghost use Rattle.std.specs.Prelude.{◌≡◌};
+ghost use Rattle.play_words.specs.declared.faults.PlayFault.TheVariants.{Number};
+
 use pile_words::PileFault;
 use std::alloc::{AllocError, AllocFailed};
 use std::fmt;
-use words::LineFault;
+use words::{LineFault, NoNumber};
 
 /// Why a line is no part of a script.
 #[derive(Clone, Copy)]
@@ -71,6 +74,14 @@ impl From<LineFault> for PlayFault {
 impl From<PileFault> for PlayFault {
     fn from(fault: PileFault) -> PlayFault {
         PlayFault::Pile(fault)
+    }
+}
+
+impl From<NoNumber> for PlayFault {
+    ghost from_gives = { λ n f. f ≡ Number n.0 };
+
+    fn from(fault: NoNumber) -> PlayFault {
+        PlayFault::Number(fault.0)
     }
 }
 

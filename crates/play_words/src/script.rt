@@ -1,7 +1,7 @@
 //! A whole script.
 ghost use Rattle.std.specs.Prelude.{◌≡◌, true, false, [], map, IfOk, Some, None, OnOk};
-ghost use Rattle.words.specs.Spellings.{Writes};
-ghost use Rattle.play_words.specs.Scripts.{market_word, SaysHouse, SaysMarket, SaysPile, SaysSetup, Took};
+ghost use Rattle.play_words.specs.Markets.{market_word, AsksMarket};
+ghost use Rattle.play_words.specs.Scripts.{SaysHouse, SaysMarket, SaysPile, SaysSetup, Took};
 
 use crate::calls::call_of;
 use crate::faults::PlayFault;
@@ -10,12 +10,40 @@ use piles::PileShape;
 use records::numbers::HouseNumber;
 use runner::script::Call;
 use std::alloc::Global;
+use std::str::FromStr;
+use words::number;
 
 /// The markets that a script can name.
 #[derive(Clone, Copy)]
 pub enum MarketKind {
     Book,
     Call,
+}
+
+/// The word names no market.
+#[derive(Clone, Copy, Debug)]
+pub struct NoMarket;
+
+impl FromStr for MarketKind {
+    type Err = NoMarket;
+
+    ghost from_str_gives = { λ word r. IfOk r (λ m. word ≡ market_word m) };
+
+    fn from_str(word: &str) -> Result<MarketKind, NoMarket> {
+        match word {
+            "book" => Ok(MarketKind::Book),
+            "call" => Ok(MarketKind::Call),
+            _ => Err(NoMarket),
+        }
+    }
+}
+
+impl From<NoMarket> for PlayFault {
+    ghost from_gives = { λ _ f. AsksMarket f };
+
+    fn from(_e: NoMarket) -> PlayFault {
+        PlayFault::Form("market book|call")
+    }
 }
 
 /// A script: what is set up, and the calls.
@@ -33,27 +61,18 @@ pub struct Reader {
     house: Option<HouseNumber>,
     market: Option<MarketKind>,
     pile: Option<PileShape>,
-    // whether `setup` has come
+    // Whether `setup` has come: a flag, since no value comes with it.
     set: bool,
     calls: Vec<Call>,
 }
 
-fn house_of(word: &str) -> Result<HouseNumber, PlayFault>
-    ensures { IfOk result (λ h. Writes word.now h.0) }
+// That what is named was not said before.
+fn unsaid<T>(slot: &Option<T>, what: &'static str) -> Result<(), PlayFault>
+    ensures { OnOk result (slot.now ≡ None) }
 {
-    match word.parse::<u32>() {
-        Ok(n) => Ok(HouseNumber(n)),
-        Err(_) => Err(PlayFault::Number("house")),
-    }
-}
-
-fn market_of(word: &str) -> Result<MarketKind, PlayFault>
-    ensures { IfOk result (λ m. word.now ≡ market_word m) }
-{
-    match word {
-        "book" => Ok(MarketKind::Book),
-        "call" => Ok(MarketKind::Call),
-        _ => Err(PlayFault::Form("market book|call")),
+    match slot {
+        None => Ok(()),
+        Some(_) => Err(PlayFault::Twice(what)),
     }
 }
 
@@ -74,29 +93,23 @@ impl Reader {
     fn take_house(&mut self, word: &str) -> Result<(), PlayFault>
         ensures { OnOk result (SaysHouse word.now self.old self.new) }
     {
-        if self.house.is_some() {
-            return Err(PlayFault::Twice("house"));
-        }
-        self.house = Some(house_of(word)?);
+        unsaid(&self.house, "house")?;
+        self.house = Some(HouseNumber(number(word, "house")?));
         Ok(())
     }
 
     fn take_market(&mut self, word: &str) -> Result<(), PlayFault>
         ensures { OnOk result (SaysMarket word.now self.old self.new) }
     {
-        if self.market.is_some() {
-            return Err(PlayFault::Twice("market"));
-        }
-        self.market = Some(market_of(word)?);
+        unsaid(&self.market, "market")?;
+        self.market = Some(word.parse()?);
         Ok(())
     }
 
     fn take_pile(&mut self, heap: Global, words: &[&str]) -> Result<(), PlayFault>
         ensures { OnOk result (SaysPile (map (λ x. x.now) words.now) self.old self.new) }
     {
-        if self.pile.is_some() {
-            return Err(PlayFault::Twice("device"));
-        }
+        unsaid(&self.pile, "device")?;
         self.pile = Some(pile_of(heap, words)?);
         Ok(())
     }
@@ -104,15 +117,9 @@ impl Reader {
     fn take_setup(&mut self) -> Result<(), PlayFault>
         ensures { OnOk result (SaysSetup self.old self.new) }
     {
-        if self.house.is_none() {
-            return Err(PlayFault::Missing("house"));
-        }
-        if self.market.is_none() {
-            return Err(PlayFault::Missing("market"));
-        }
-        if self.pile.is_none() {
-            return Err(PlayFault::Missing("device"));
-        }
+        self.house.as_ref().ok_or(PlayFault::Missing("house"))?;
+        self.market.as_ref().ok_or(PlayFault::Missing("market"))?;
+        self.pile.as_ref().ok_or(PlayFault::Missing("device"))?;
         if self.set {
             return Err(PlayFault::Twice("setup"));
         }

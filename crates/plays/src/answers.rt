@@ -60,7 +60,8 @@ pub(crate) fn print_call(rt: &HostRuntime, call: &Call) -> io::Result<()> {
     Ok(())
 }
 
-/// A call that spends what was left: its ticket or receipt is told by its numbers.
+/// A call that spends what was left. It reads as a call of the script does, but tells its ticket or receipt by what it says;
+/// one text of both would first have to make one type of the two, with as many arms.
 pub(crate) fn print_made(rt: &HostRuntime, entry: &Entry) -> io::Result<()> {
     match entry {
         Entry::Stage(bytes, _) => print_stage(rt, bytes)?,

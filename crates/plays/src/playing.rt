@@ -2,17 +2,18 @@
 use crate::answers::{Tokens, print_answer, print_call, print_made};
 use crate::lines::{PhaseWord, RefusalWords};
 use crate::reading::read_script;
-use book::shape::Book;
-use call::shape::CallAuction;
+use book::shape::Continuous;
+use call::shape::Crossing;
 use device::Device;
 use exchange::state::Exchange;
 use jobs::faults::JobFault;
-use jobs::matching::{Shown, print_side};
-use market::interface::Market;
+use jobs::matching::print_side;
 use piles::build;
 use play_words::script::{MarketKind, Script};
 use records::commands::Side;
 use records::numbers::HouseNumber;
+use ruled_market::rules::Rules;
+use ruled_market::shape::RestingMarket;
 use runner::running::{Run, RunFault, run_script};
 use runner::script::Call;
 use std::alloc::AllocError;
@@ -38,9 +39,9 @@ fn print_run(rt: &HostRuntime, script: &[Call], run: &Run) -> io::Result<()> {
 }
 
 // The numbers at the end, and the orders that rest.
-fn print_end<M: Market + Shown, D: Device>(
+fn print_end<R: Rules, D: Device>(
     rt: &HostRuntime,
-    exchange: &Exchange<M, D>,
+    exchange: &Exchange<RestingMarket<R>, D>,
 ) -> io::Result<()> {
     let status = exchange.status();
     let (pages, commands, notices) = (status.pages.0, status.commands.0, status.notices.0);
@@ -49,49 +50,47 @@ fn print_end<M: Market + Shown, D: Device>(
     println!(rt;
         "pages {pages} commands {commands} notices {notices} delivered {mark} covered {covered} slot {slot}"
     )?;
-    print_side(rt, Side::Buy, exchange.market().resting_buys())?;
-    print_side(rt, Side::Sell, exchange.market().resting_sells())
+    print_side(rt, Side::Buy, exchange.market().buys())?;
+    print_side(rt, Side::Sell, exchange.market().sells())
 }
 
-// Sets an exchange up on the device, and makes the calls: no memory, or what became of printing.
-fn on_device<M: Market + Shown + Drop, D: Device + Drop>(
+// Sets an exchange up on the device, and makes the calls. The error is the caller's: a device's type has a lifetime, and no
+// function of it may name JobFault, which holds static text.
+fn on_device<R: Rules, D: Device + Drop, E: From<io::Error> + From<AllocError>>(
     rt: &HostRuntime,
     house: HouseNumber,
     device: D,
     script: &[Call],
-) -> Result<io::Result<()>, AllocError> {
+) -> Result<(), E> {
     let heap = rt.alloc();
-    let mut exchange: Exchange<M, D> = Exchange::new(heap, house, device)?;
-    let printed = match run_script(heap, &mut exchange, script) {
-        Ok(run) => print_run(rt, script, &run),
-        Err(RunFault::NoMemory) => return Err(AllocError),
-        Err(RunFault::Refused(fault)) => println!(rt; "setup -> {}", RefusalWords(fault)),
-    };
-    match printed {
-        Ok(()) => Ok(print_end(rt, &exchange)),
-        Err(e) => Ok(Err(e)),
+    let mut exchange: Exchange<RestingMarket<R>, D> = Exchange::new(heap, house, device)?;
+    match run_script(heap, &mut exchange, script) {
+        Ok(run) => print_run(rt, script, &run)?,
+        Err(RunFault::NoMemory) => return Err(AllocError.into()),
+        Err(RunFault::Refused(fault)) => println!(rt; "setup -> {}", RefusalWords(fault))?,
     }
+    Ok(print_end(rt, &exchange)?)
 }
 
-// Runs the script over the images of its drives.
-fn on_images<'a, M: Market + Shown + Drop>(
+// Runs the script over the images of its drives: two, since the drives of a mirror are lent apart.
+fn on_images<'a, R: Rules, E: From<io::Error> + From<AllocError>>(
     rt: &HostRuntime,
     script: &'a Script,
     first: &'a mut [u8],
     second: &'a mut [u8],
-) -> Result<io::Result<()>, AllocError> {
+) -> Result<(), E> {
     let pile = build(rt.alloc(), &script.pile, first, second)?;
-    on_device::<M, _>(rt, script.house, pile, &script.calls)
+    on_device::<R, _, E>(rt, script.house, pile, &script.calls)
 }
 
+// The market is chosen once, from a word: what follows is one generic function.
 /// Runs the script of standard input. A line that cannot be read ends the job before anything is run.
 pub fn play_script(rt: &HostRuntime) -> Result<(), JobFault> {
     let script = read_script(rt)?;
     let mut first = Vec::from_elem(rt.alloc(), 0, script.pile.first_bytes())?;
     let mut second = Vec::from_elem(rt.alloc(), 0, script.pile.second_bytes())?;
-    let printed = match script.market {
-        MarketKind::Book => on_images::<Book>(rt, &script, &mut first, &mut second)?,
-        MarketKind::Call => on_images::<CallAuction>(rt, &script, &mut first, &mut second)?,
-    };
-    Ok(printed?)
+    match script.market {
+        MarketKind::Book => on_images::<Continuous, JobFault>(rt, &script, &mut first, &mut second),
+        MarketKind::Call => on_images::<Crossing, JobFault>(rt, &script, &mut first, &mut second),
+    }
 }

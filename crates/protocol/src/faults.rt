@@ -5,7 +5,7 @@ use records::refusals::Refusal;
 pub mod told;
 
 /// Who told of a fault, and of which sector.
-#[derive(Clone, Copy)]
+#[derive(Clone, Copy, PartialEq, Eq, Debug)]
 pub enum Origin {
     /// The call was not allowed, or there was no header to tell of: nothing more is carried.
     Plain,
@@ -18,14 +18,14 @@ pub enum Origin {
 }
 
 /// The first reason that fits, and where it comes from.
-#[derive(Clone, Copy)]
+#[derive(Clone, Copy, PartialEq, Eq, Debug)]
 pub struct ExchangeFault {
     pub reason: Refusal,
     pub origin: Origin,
 }
 
 /// What the journal meets on its device.
-#[derive(Clone, Copy)]
+#[derive(Clone, Copy, PartialEq, Eq, Debug)]
 pub enum JournalFault {
     /// The device's own fault: a cut, or a torn sector of a body.
     Device(DeviceFault),

@@ -1,7 +1,7 @@
 //! What an exchange is doing.
 
 /// Phase and call together decide what is allowed.
-#[derive(Clone, Copy)]
+#[derive(Clone, Copy, PartialEq, Eq, Debug)]
 pub enum Phase {
     /// Takes commands.
     Live,

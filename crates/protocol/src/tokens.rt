@@ -2,14 +2,14 @@
 use records::numbers::{CommandNumber, HouseNumber, NoticeNumber, PageNumber};
 
 /// The numbers of a ticket: the page that was written, and whose it is.
-#[derive(Clone, Copy)]
+#[derive(Clone, Copy, PartialEq, Eq, Debug)]
 pub struct TicketNumbers {
     pub house: HouseNumber,
     pub page: PageNumber,
 }
 
 /// The numbers of a receipt: a page of the record, its commands and its notices.
-#[derive(Clone, Copy)]
+#[derive(Clone, Copy, PartialEq, Eq, Debug)]
 pub struct ReceiptNumbers {
     pub house: HouseNumber,
     pub page: PageNumber,

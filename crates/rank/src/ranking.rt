@@ -1,24 +1,25 @@
 ghost use Rattle.std.specs.Prelude.{◌≡◌, Bool, true, false};
 
-/// A ranking of elements, named by the type `B`, so that one type can be ranked in several ways.
-pub trait Rank<B> {
+/// A ranking of elements. It is a value, so that one type can be ranked in several ways, and which
+/// way can be chosen as the program runs.
+pub trait Ranking<T> {
     // the ranked fields
     ghost Key: { Type 0 };
 
-    ghost key: { Self → Key };
+    ghost key: { T → Key };
 
     // whether one who has these ranked fields stands before one who has those
-    ghost earlier: { Key → Key → Bool };
+    ghost earlier: { Self → Key → Key → Bool };
 
-    fn stands_before(&self, other: &Self) -> bool
-        ensures { result ≡ earlier (key self.now) (key other.now) };
+    fn stands_before(&self, x: &T, y: &T) -> bool
+        ensures { result ≡ earlier self.now (key x.now) (key y.now) };
 
     // nothing stands before itself
-    ghost irreflexive: { (a : Key) → earlier a a ≡ false };
+    ghost irreflexive: { (r : Self) (a : Key) → earlier r a a ≡ false };
 
     // standing before carries over chains
-    ghost chains: { (a b c : Key) → earlier a b ≡ true → earlier b c ≡ true → earlier a c ≡ true };
+    ghost chains: { (r : Self) (a b c : Key) → earlier r a b ≡ true → earlier r b c ≡ true → earlier r a c ≡ true };
 
     // of two that differ in a ranked field one stands before the other (and by the other laws only one)
-    ghost total: { (a b : Key) → earlier a b ≡ false → earlier b a ≡ false → a ≡ b };
+    ghost total: { (r : Self) (a b : Key) → earlier r a b ≡ false → earlier r b a ≡ false → a ≡ b };
 }

@@ -14,3 +14,15 @@ pub(crate) fn changed(sector: &[u8; 512], change: Change) -> [u8; 512]
     }
     other
 }
+
+// Whether each change makes a sector that passes the test. (A sector and its changes go together in each table of tests; a struct
+// of both would only be taken apart.)
+pub(crate) fn each<F: Fn(&[u8; 512]) -> bool>(
+    sector: &[u8; 512],
+    changes: &[Change],
+    test: F,
+) -> bool
+    requires { F.IsAlwaysCallable test }
+{
+    changes.iter().all(|change| test(&changed(sector, *change)))
+}

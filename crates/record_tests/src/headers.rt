@@ -1,5 +1,5 @@
 //! Headers that are no good, one change away from a good one, and the choice between two.
-use crate::changes::{Change, changed};
+use crate::changes::{Change, changed, each};
 use book::shape::Book;
 use journal::choosing::{first_header, own_header};
 use records::headers::Header;
@@ -82,26 +82,14 @@ fn comes_back(rt: HostRuntime) -> Result<(), Fail> {
 
 // Whether each change makes a sector that is no good header.
 fn are_refused(good: &[u8; 512], changes: &[Change]) -> bool {
-    for change in changes {
-        if Header::decode(&changed(good, *change)).is_some() {
-            return false;
-        }
-    }
-    true
+    each(good, changes, |sector| Header::decode(sector).is_none())
 }
 
 // Whether each change makes a good header that is not this house's or not this market's.
 fn are_others(good: &[u8; 512], changes: &[Change]) -> bool {
-    for change in changes {
-        let other = changed(good, *change);
-        if Header::decode(&other).is_none() {
-            return false;
-        }
-        if own_header::<Book>(&other, HOUSE).is_some() {
-            return false;
-        }
-    }
-    true
+    each(good, changes, |sector| {
+        Header::decode(sector).is_some() && own_header::<Book>(sector, HOUSE).is_none()
+    })
 }
 
 #[test]
@@ -143,6 +131,7 @@ fn page_0_has_nothing(rt: HostRuntime) {
     assert!(rt; !is_good(0, 0, 1));
 }
 
+// A number, since the tests' values are such numbers.
 // The slot of the header that is chosen, 9 where none is.
 fn chosen_slot(zero: &[u8; 512], one: &[u8; 512]) -> u8 {
     match first_header::<Book>(zero, one, HOUSE) {

@@ -1,5 +1,5 @@
 //! Pages that are no good, one change away from a good one.
-use crate::changes::{Change, changed};
+use crate::changes::{Change, changed, each};
 use records::commands::{Command, Side};
 use records::numbers::{CommandNumber, HouseNumber, Lots, Member, PageNumber, Price};
 use records::pages::{Page, PageHead, looks_for};
@@ -154,22 +154,16 @@ fn comes_back(rt: HostRuntime) -> Result<(), Fail> {
 
 // Whether each change makes a sector that is no good page.
 fn are_refused(good: &[u8; 512], changes: &[Change]) -> bool {
-    for change in changes {
-        if Page::decode(&changed(good, *change)).is_some() {
-            return false;
-        }
-    }
-    true
+    each(good, changes, |sector| Page::decode(sector).is_none())
 }
 
 // Whether each change makes a sector that looks like this page, or that does not.
 fn all_look(good: &[u8; 512], changes: &[Change], alike: bool) -> bool {
-    for change in changes {
-        if looks_for(&changed(good, *change), HOUSE, NUMBER) != alike {
-            return false;
-        }
-    }
-    true
+    each(
+        good,
+        changes,
+        |sector| looks_for(sector, HOUSE, NUMBER) == alike,
+    )
 }
 
 #[test]

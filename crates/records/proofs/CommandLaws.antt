@@ -1,7 +1,12 @@
 -- The laws of commands and their records.
-use Rattle.std.proofs.Common.{◌≡◌, ℕ, zero, suc, ◌+◌, ◌≤◌, Bool, true, false, cond, eqb, leb, ◌⊎◌, List, length, drop, Some, None, Ok, Err, Option, sym, refl, ap, ◌∙◌, inl, inr, ⊎_elim, arith}
+use Rattle.std.proofs.Common.{◌≡◌, ℕ, zero, suc, ◌+◌, ◌≤◌, Bool, true, false, cond, eqb, leb, ◌⊎◌, List, length, drop, Some, None, Ok, Err, Option, sym, refl, ap, ◌∙◌, inl, inr, ⊎_elim, arith, rules}
 use Rattle.std.proofs.lemmas.List.{length-drop, take_all}
 use Rattle.std.proofs.lemmas.Bool.{and_parts, leb-true, eqb-true, cond-true}
+use Rattle.records.specs.Kinds.{kind_number}
+use Rattle.records.specs.declared.kinds.RecordKind.{RecordKind}
+use Rattle.records.specs.declared.kinds.RecordKind.TheVariants as kinds
+use Rattle.records.specs.declared.kinds.RecordKind.TheVariants.{Page, Header}
+use Rattle.std.specs.Option.{ok_or}
 use Rattle.records.specs.declared.numbers.CommandNumber.{CommandNumber}
 use Rattle.records.specs.declared.numbers.Member.{Member}
 use Rattle.records.specs.declared.numbers.Price.{Price}
@@ -134,8 +139,15 @@ only_records bs c b h =
     (which _ _ _ _ h)
 
 -- what a decoder's answer says
-pub accepts : (bs : List ℕ) (c : Command) → Bytes bs → decoded bs ≡ Some c → Decoded bs (Ok c)
-accepts bs c b h = let k = only_records bs c b h in (h, k.0, k.1)
+pub answers : (bs : List ℕ) (r : Option Command) → Bytes bs → r ≡ decoded bs → Decoded bs (ok_or r NotACommand)
+answers bs (Some c) b h = let k = only_records bs c b (sym h) in (sym h, k.0, k.1)
+answers bs None b h = (refl, sym h, λ c g e. never {X = ⊥} c (h ∙ ap decoded (sym e) ∙ comes_back c g))
 
-pub refuses : (bs : List ℕ) → decoded bs ≡ None → Decoded bs (Err NotACommand)
-refuses bs h = (refl, h, λ c g e. never {X = ⊥} c (sym h ∙ ap decoded (sym e) ∙ comes_back c g))
+-- bytes of any other kind are no command
+pub other_kind : (k : RecordKind) (bs : List ℕ) → (k ≡ kinds.Enter → ⊥) → (k ≡ kinds.Cancel → ⊥) → (k ≡ kinds.Cross → ⊥) → kind_number k ≡ field 2 2 bs → None ≡ decoded bs
+unfolding decoded
+other_kind Page bs a b d e = search rules
+other_kind Header bs a b d e = search rules
+other_kind kinds.Enter bs a b d e = absurd (a refl)
+other_kind kinds.Cancel bs a b d e = absurd (b refl)
+other_kind kinds.Cross bs a b d e = absurd (d refl)

@@ -81,7 +81,3 @@ unfolding commands_in_bytes
 found_end n i cs bs l =
     let e : n - i ≡ 0 = omega arith in
     rw e (none_left cs (eqb (length bs) 0))
-
--- a turn of the loop that asks whether each command is good
-pub good_turn : (cs : List Command) (i : ℕ) (d : Command) (b : Bool) → i < length cs → b ≡ good (get_or cs i d) → all_good (drop i cs) ≡ (b && all_good (drop (i + 1) cs))
-good_turn cs i d b l e = at_drop_more all_good cs i d l ∙ ap (λ x. x && all_good (drop (i + 1) cs)) (sym e)

@@ -89,17 +89,6 @@ rules p g =
 good_from : (p : Contents) → p.head.house.0 < 256 ^ 4 → p.head.number.0 < 256 ^ 8 → numbers_good p.head (length p.commands) ≡ true → all_good p.commands ≡ true → good_page p ≡ true
 good_from p h n r e = rw (lt-ltb _ _ h, lt-ltb _ _ n, r, e)
 
--- which pages have a sector
-module _ (h : PageHead) (cs : List Command) where
-  pub encodes : h.house.0 < 256 ^ 4 → h.number.0 < 256 ^ 8 → true ≡ numbers_good h (length cs) → true ≡ all_good cs → encoded_page (page_of h cs) ≡ Some (page_sector_bytes (page_of h cs))
-  encodes f k r e = cond-true _ _ _ (good_from (page_of h cs) f k (sym r) (sym e))
-
-  pub bad_numbers : false ≡ numbers_good h (length cs) → encoded_page (page_of h cs) ≡ None
-  bad_numbers e = cond-false _ _ _ (and_right (fits_in 4 h.house.0 && fits_in 8 h.number.0) _ (and_left _ (all_good cs) (sym e)))
-
-  pub bad_commands : false ≡ all_good cs → encoded_page (page_of h cs) ≡ None
-  bad_commands e = cond-false (good_page (page_of h cs)) _ _ (and_right (fits_in 4 h.house.0 && fits_in 8 h.number.0) _ (and_right (numbers_good h (length cs)) (all_good cs) (sym e)))
-
 module _ (p : Contents) (g : good_page p ≡ true) where
   r : Rules p
   r = rules p g

@@ -4,12 +4,6 @@ use Rattle.std.proofs.lemmas.List.{take-append-drop, length-take-le}
 use Rattle.std.proofs.lemmas.Bool.{and_parts, eqb-true}
 use Rattle.records.specs.Sectors.{padded, zeros}
 
--- what is written, and zeros to the end of the sector
-pub pad : (len : ℕ) (bs : List ℕ) → length bs ≡ 512 → len ≤ 512 → drop len bs ≡ replicate (512 - len) 0 → bs ≡ padded (take len bs)
-pad len bs l h z =
-    let k : len ≤ length bs = omega arith in
-    rw (length-take-le len bs) (sym (take-append-drop len bs) ∙ ap (λ d. take len bs ++ d) z)
-
 pub zeros_replicate : (n : ℕ) → zeros (replicate n 0) ≡ true
 zeros_replicate zero = refl
 zeros_replicate (suc n) = zeros_replicate n

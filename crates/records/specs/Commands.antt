@@ -1,10 +1,11 @@
 -- Commands and their records.
-use Rattle.std.specs.Prelude.{◌≡◌, ℕ, Bool, true, cond, ◌&&◌, List, ◌++◌, length, Some, None, Ok, Err, Option, Result, ◌==◌, ◌≢◌, nat_le}
+use Rattle.std.specs.Prelude.{◌≡◌, ℕ, ◌<◌, Bool, true, cond, ◌&&◌, List, ◌++◌, length, Some, None, Ok, Err, Option, Result, MatchResult, ◌==◌, ◌≢◌, nat_le}
 use Rattle.records.specs.LittleEndian.{le, field}
 use Rattle.records.specs.declared.numbers.Member.{Member}
 use Rattle.records.specs.declared.numbers.Price.{Price}
 use Rattle.records.specs.declared.numbers.Lots.{Lots}
 use Rattle.records.specs.declared.commands.Side.{Side}
+use Rattle.records.specs.declared.commands.NoSide.{NoSide}
 use Rattle.records.specs.declared.commands.Side.TheVariants.{Buy, Sell}
 use Rattle.records.specs.declared.commands.Command.{Command}
 use Rattle.records.specs.declared.commands.Command.TheVariants.{Enter, Cancel, Cross}
@@ -29,6 +30,10 @@ good Cross = true
 abbrev pub side_number : Side → ℕ
 side_number Buy = 0
 side_number Sell = 1
+
+-- the side with number n, or n where no side has it
+abbrev pub IsSide : ℕ → Result Side NoSide → Type 0
+IsSide n r = MatchResult r (λ s. side_number s ≡ n) (λ e. (e.0 ≡ n) × (1 < n))
 
 -- the record of a command: its length in two bytes, its kind in two, and its fields
 abbrev pub encoded : Command → List ℕ

@@ -1,6 +1,6 @@
-pub mod Buffers
 pub mod Commands
 pub mod Headers
+pub mod Kinds
 pub mod LittleEndian
 pub mod Notices
 pub mod Pages

@@ -1,5 +1,5 @@
 -- Notices and their numbers.
-use Rattle.std.specs.Prelude.{ℕ, ◌+◌, List, [], ◌∷◌}
+use Rattle.std.specs.Prelude.{ℕ, ◌+◌, List, [], ◌∷◌, ◌++◌, take, drop}
 use Rattle.records.specs.declared.notices.Notice.{Notice}
 
 -- the notice under number n
@@ -10,3 +10,7 @@ numbered n v = record { number = record { 0 = n }; command = v.command; kind = v
 abbrev pub counted : ℕ → List Notice → List Notice
 counted n [] = []
 counted n (v ∷ vs) = numbered (n + 1) v ∷ counted (n + 1) vs
+
+-- the first n notices of a list, counted on from k
+abbrev pub counted_front : ℕ → ℕ → List Notice → List Notice
+counted_front k n vs = counted k (take n vs) ++ drop n vs

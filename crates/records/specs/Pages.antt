@@ -1,6 +1,6 @@
 -- Pages of the journal and their records.
 use Rattle.std.specs.Prelude.{◌≡◌, ℕ, zero, suc, ◌+◌, ◌-◌, ◌≤◌, Bool, true, false, cond, ◌&&◌, List, [], ◌∷◌, ◌++◌, length, take, drop, replicate, Some, None, Decides, Option, ◌==◌, ◌≢◌, nat_le}
-use Rattle.std.specs.List.{flat_map}
+use Rattle.std.specs.List.{flat_map, list_all}
 use Rattle.records.specs.LittleEndian.{le, field}
 use Rattle.records.specs.Commands.{good, encoded, decoded, within}
 use Rattle.records.specs.Sectors.{padded, zeros, fits_in}
@@ -9,7 +9,7 @@ use Rattle.records.specs.declared.numbers.HouseNumber.{HouseNumber}
 use Rattle.records.specs.declared.numbers.PageNumber.{PageNumber}
 use Rattle.records.specs.declared.pages.PageHead.{PageHead}
 use Rattle.records.specs.declared.pages.Page.{Page}
-use Rattle.records.specs.declared.pages.batches.Batch.{Batch}
+use Rattle.arrayvec.specs.ArrayVec.{ArrayVec}
 
 -- what a page says
 pub record Contents : Type 0 where
@@ -21,8 +21,7 @@ abbrev pub page_of : PageHead → List Command → Contents
 page_of h cs = record { head = h; commands = cs }
 
 abbrev pub all_good : List Command → Bool
-all_good [] = true
-all_good (c ∷ cs) = good c && all_good cs
+all_good cs = list_all good cs
 
 -- the numbers of a page with n commands: page and first command are counted from 1, there are 1 to 16 commands,
 -- and the last one's number, first + n - 1, is at most 1,000,000,000,000
@@ -119,14 +118,14 @@ abbrev pub ZerosLookLikeNone : Type 0
 ZerosLookLikeNone = (h : HouseNumber) (n : PageNumber) → bytes_look_for h n (replicate 512 0) ≡ false
 
 -- the commands that a batch holds, in their order
-unfoldable pub held : Batch → List Command
-held b = take b.len b.items
+abbrev pub held : ArrayVec Command → List Command
+held b = b.items
 
 -- what a page that was read says
 abbrev pub said : Option Page → Option Contents
 said (Some p) = Some (page_of p.head (held p.commands))
 said None = None
 
-abbrev pub held_in : Option Batch → Option (List Command)
+abbrev pub held_in : Option (ArrayVec Command) → Option (List Command)
 held_in (Some b) = Some (held b)
 held_in None = None

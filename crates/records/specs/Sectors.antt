@@ -1,14 +1,18 @@
 -- A record in its sector.
 use Rattle.std.specs.Prelude.{ℕ, ◌-◌, ◌^◌, Bool, true, ◌&&◌, List, [], ◌∷◌, ◌++◌, length, replicate, ◌==◌, nat_lt}
+use Rattle.std.specs.List.{list_all}
 
--- bs, and zeros up to 512 bytes
+-- bs, and zeros up to n bytes
+abbrev pub filled_up : ℕ → List ℕ → List ℕ
+filled_up n bs = bs ++ replicate (n - length bs) 0
+
+-- a record in its sector: zeros up to 512 bytes
 abbrev pub padded : List ℕ → List ℕ
-padded bs = bs ++ replicate (512 - length bs) 0
+padded bs = filled_up 512 bs
 
 -- each byte is 0
 abbrev pub zeros : List ℕ → Bool
-zeros [] = true
-zeros (b ∷ bs) = b == 0 && zeros bs
+zeros bs = list_all (λ b. b == 0) bs
 
 -- n has room in w bytes
 abbrev pub fits_in : ℕ → ℕ → Bool

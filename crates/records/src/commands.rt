@@ -3,14 +3,19 @@ use crate::numbers::{CommandNumber, Lots, Member, Price};
 
 pub mod codes;
 
-#[derive(Clone, Copy)]
+/// Its number in a record is 0 or 1.
+#[derive(Clone, Copy, PartialEq, Eq, Debug)]
 pub enum Side {
-    Buy,
-    Sell,
+    Buy = 0,
+    Sell = 1,
 }
 
+/// A number that is no side's.
+#[derive(Clone, Copy, PartialEq, Eq, Debug)]
+pub struct NoSide(pub u16);
+
 /// A command, whether or not its numbers lie in their ranges: `is_good` tells.
-#[derive(Clone, Copy)]
+#[derive(Clone, Copy, PartialEq, Eq, Debug, Default)]
 pub enum Command {
     /// Buys or sells so many lots at this price or a better one.
     Enter {
@@ -25,5 +30,6 @@ pub enum Command {
         order: CommandNumber,
     },
     /// Crosses the resting orders of a call auction.
+    #[default]
     Cross,
 }

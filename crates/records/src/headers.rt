@@ -4,7 +4,7 @@ use crate::numbers::{CommandNumber, HouseNumber, NoticeNumber, PageNumber};
 mod codes;
 
 /// The last page, command and notice before the snapshot, and whose it is.
-#[derive(Clone, Copy)]
+#[derive(Clone, Copy, PartialEq, Eq, Debug)]
 pub struct Header {
     pub house: HouseNumber,
     pub page: PageNumber,

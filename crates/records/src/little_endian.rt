@@ -1,36 +1,83 @@
 //! Numbers in bytes, the lowest byte first.
-ghost use Rattle.std.specs.Prelude.{◌≡◌, ◌+◌, ◌≤◌, length};
-ghost use Rattle.records.specs.LittleEndian.{field};
+ghost use Rattle.std.specs.Prelude.{◌≡◌, ℕ, ◌+◌, ◌≤◌, length};
+ghost use Rattle.records.specs.LittleEndian.{le, field};
 
-// The number in the two bytes from `at` on.
-pub(crate) fn take16(bytes: &[u8], at: usize) -> u16
-    requires { at + 2 ≤ length bytes.now }
-    ensures { result ≡ field at 2 bytes.now }
-{
-    u16::from_le_bytes([bytes[at], bytes[at + 1]])
+use std::convert::AsSlice;
+
+/// An unsigned number that has so many bytes.
+pub trait LittleEndian: Copy {
+    type Bytes: AsSlice<u8> + Drop;
+
+    ghost width: { ℕ };
+
+    ghost number: { Self → ℕ };
+
+    /// Its bytes.
+    fn bytes(self) -> Self::Bytes
+        ensures { Self.Bytes.items result ≡ le width (number self) };
+
+    /// The number in the bytes from `at` on.
+    // Bytes and a place in them go together here as in the library; a struct of both would only be taken apart. The bytes
+    // are named one by one, since `try_from` of a slice answers a Result that is never an error here.
+    fn take(bytes: &[u8], at: usize) -> Self
+        requires { at + width ≤ length bytes.now }
+        ensures { number result ≡ field at width bytes.now };
 }
 
-// The number in the four bytes from `at` on.
-pub(crate) fn take32(bytes: &[u8], at: usize) -> u32
-    requires { at + 4 ≤ length bytes.now }
-    ensures { result ≡ field at 4 bytes.now }
-{
-    u32::from_le_bytes([bytes[at], bytes[at + 1], bytes[at + 2], bytes[at + 3]])
+// Three impls of one shape: the width is in the names of the library's calls, and no const parameter can choose them.
+impl LittleEndian for u16 {
+    type Bytes = [u8; 2];
+
+    ghost width = { 2 };
+
+    ghost number = { λ n. n };
+
+    fn bytes(self) -> [u8; 2] {
+        self.to_le_bytes()
+    }
+
+    fn take(bytes: &[u8], at: usize) -> u16 {
+        u16::from_le_bytes([bytes[at], bytes[at + 1]])
+    }
 }
 
-// The number in the eight bytes from `at` on.
-pub(crate) fn take64(bytes: &[u8], at: usize) -> u64
-    requires { at + 8 ≤ length bytes.now }
-    ensures { result ≡ field at 8 bytes.now }
-{
-    u64::from_le_bytes([
-        bytes[at],
-        bytes[at + 1],
-        bytes[at + 2],
-        bytes[at + 3],
-        bytes[at + 4],
-        bytes[at + 5],
-        bytes[at + 6],
-        bytes[at + 7],
-    ])
+impl LittleEndian for u32 {
+    type Bytes = [u8; 4];
+
+    ghost width = { 4 };
+
+    ghost number = { λ n. n };
+
+    fn bytes(self) -> [u8; 4] {
+        self.to_le_bytes()
+    }
+
+    fn take(bytes: &[u8], at: usize) -> u32 {
+        u32::from_le_bytes([bytes[at], bytes[at + 1], bytes[at + 2], bytes[at + 3]])
+    }
+}
+
+impl LittleEndian for u64 {
+    type Bytes = [u8; 8];
+
+    ghost width = { 8 };
+
+    ghost number = { λ n. n };
+
+    fn bytes(self) -> [u8; 8] {
+        self.to_le_bytes()
+    }
+
+    fn take(bytes: &[u8], at: usize) -> u64 {
+        u64::from_le_bytes([
+            bytes[at],
+            bytes[at + 1],
+            bytes[at + 2],
+            bytes[at + 3],
+            bytes[at + 4],
+            bytes[at + 5],
+            bytes[at + 6],
+            bytes[at + 7],
+        ])
+    }
 }

@@ -2,9 +2,10 @@
 use crate::numbers::{CommandNumber, Lots, Member, NoticeNumber, Price};
 
 /// What happened to the lots of a notice. Its numbers are 1, 2 and 3.
-#[derive(Clone, Copy)]
+#[derive(Clone, Copy, PartialEq, Eq, Debug, Default)]
 pub enum Kind {
     /// They changed hands: `a` bought them and `b` sold them.
+    #[default]
     Fill = 1,
     /// They found no place to rest.
     Dropped = 2,
@@ -13,7 +14,7 @@ pub enum Kind {
 }
 
 /// One side of a notice: an order and its member; both 0 where the notice has no such side.
-#[derive(Clone, Copy)]
+#[derive(Clone, Copy, PartialEq, Eq, Debug, Default)]
 pub struct Party {
     pub order: CommandNumber,
     pub member: Member,
@@ -21,7 +22,8 @@ pub struct Party {
 
 /// One thing that a command did. A fill has the buy as `a` and the sell as `b`; lots that are
 /// dropped or cancelled have their order as `a`, and 0 in `b` and in the price.
-#[derive(Clone, Copy)]
+// Every notice has the same fields, with 0 where it has no such thing: so it is sent out, and so it is compared.
+#[derive(Clone, Copy, PartialEq, Eq, Debug, Default)]
 pub struct Notice {
     pub number: NoticeNumber,
     pub command: CommandNumber,

@@ -9,7 +9,7 @@ mod writes;
 pub use reads::looks_for;
 
 /// Whose page it is, which one, and the number of its first command.
-#[derive(Clone, Copy)]
+#[derive(Clone, Copy, PartialEq, Eq, Debug)]
 pub struct PageHead {
     pub house: HouseNumber,
     pub number: PageNumber,

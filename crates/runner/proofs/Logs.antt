@@ -58,9 +58,6 @@ module _ {M D : Type 0} (m : market.Ghosts M) (d : device.Ghosts D) where
     played = subst (λ s. Played (tokens_of h) s (p.new ++ e ∷ []) (tokens_of l)) (sym (take_more script i c lt)) (played_more (tokens_of h) (tokens_of k) (take i script) p.new (get_or script i c) e (tokens_of l) p.played a);
   }
 
-  pub closed_none : (x : Exchange M D) (es : List Entry) → Closed m d x es x es
-  closed_none x es = record { run = λ r. r; new = []; log = sym (append-nil es); closes = tt }
-
   pub closed_next : (x y z : Exchange M D) (es fs gs : List Entry) (e : Entry) → Closed m d x es y fs → gs ≡ fs ++ e ∷ [] → Told m d y e z → Closes e → Closed m d x es z gs
   closed_next x y z es fs gs e p q t c = record {
     run = λ r. went_on y z fs gs e q t (p.run r);

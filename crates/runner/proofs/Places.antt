@@ -1,60 +1,31 @@
--- Places of a list that are past its end, and what is taken out and put back.
-use Rattle.std.proofs.Common.{◌≡◌, ℕ, zero, suc, ◌-◌, ◌<◌, ◌≤◌, Bool, true, false, cond, eqb, List, [], ◌∷◌, length, get_or, set, Some, None, Option, sym, refl, ap, ◌∙◌, arith}
+-- What is taken out of a list and put back.
+use Rattle.std.proofs.Common.{◌≡◌, ℕ, zero, suc, ◌-◌, ◌≤◌, Bool, true, false, cond, eqb, List, [], ◌∷◌, length, get_or, set, Some, None, Option, sym, refl, ap, ◌∙◌, arith}
 use native.Mathlib.Decide.{dec_le}
-use Rattle.std.proofs.lemmas.Bool.{ne_eqb, eqb-false, cond-false}
+use Rattle.std.proofs.lemmas.Bool.{eqb-false, cond-false}
+use Rattle.std.proofs.lemmas.List.{get_or_past, set-get_or}
 use Rattle.runner.specs.Tokens.{held, cleared}
-
-get_past : {X : Type 0} (xs : List X) (i : ℕ) (d : X) → length xs ≤ i → get_or xs i d ≡ d
-get_past [] i d h = refl
-get_past (x ∷ xs) zero d h = absurd (omega arith)
-get_past (x ∷ xs) (suc i) d h = get_past xs i d (omega arith)
-
-set_past : {X : Type 0} (xs : List X) (i : ℕ) (v : X) → length xs ≤ i → set xs i v ≡ xs
-set_past [] i v h = refl
-set_past (x ∷ xs) zero v h = absurd (omega arith)
-set_past (x ∷ xs) (suc i) v h = ap (λ l. x ∷ l) (set_past xs i v (omega arith))
 
 set_back : {X : Type 0} (xs : List X) (i : ℕ) (u d : X) → set (set xs i u) i (get_or xs i d) ≡ set xs i (get_or xs i d)
 set_back [] i u d = refl
 set_back (x ∷ xs) zero u d = refl
 set_back (x ∷ xs) (suc i) u d = ap (λ l. x ∷ l) (set_back xs i u d)
 
-set_same : {X : Type 0} (xs : List X) (i : ℕ) (d : X) → i < length xs → set xs i (get_or xs i d) ≡ xs
-set_same [] i d h = absurd (omega arith)
-set_same (x ∷ xs) zero d h = refl
-set_same (x ∷ xs) (suc i) d h = ap (λ l. x ∷ l) (set_same xs i d (omega arith))
-
 module _ {X : Type 0} (xs : List (Option X)) (n : ℕ) where
-  pub held_past : length xs < n → held xs n ≡ None
-  held_past h = cond-false _ _ _ (ne_eqb n 0 (λ e. omega arith)) ∙ get_past xs (n - 1) None (omega arith)
-
-  pub cleared_past : length xs < n → cleared xs n ≡ xs
-  cleared_past h = cond-false _ _ _ (ne_eqb n 0 (λ e. omega arith)) ∙ set_past xs (n - 1) None (omega arith)
-
   -- a token that was held and is put back is where it was
   pub back_again : (x : X) → held xs n ≡ Some x → set (cleared xs n) (n - 1) (Some x) ≡ xs
   back_again x e = go (eqb n 0) refl e
     where
       go : (b : Bool) → eqb n 0 ≡ b → cond b None (get_or xs (n - 1) None) ≡ Some x → set (cleared xs n) (n - 1) (Some x) ≡ xs
       go true t e = absurd (let z : ◌≡◌ {A = ℕ} 0 1 = cc in omega arith)
-      go false t e = ap (λ l. set l (n - 1) (Some x)) (cond-false _ _ _ t) ∙ ap (λ v. set (set xs (n - 1) None) (n - 1) v) (sym e) ∙ set_back xs (n - 1) None None ∙ set_same xs (n - 1) None (inside (dec_le (length xs) (n - 1)))
-        where
-          inside : Dec (length xs ≤ n - 1) → n - 1 < length xs
-          inside (yes h) = absurd (let p = sym (get_past xs (n - 1) None h) ∙ e in let z : ◌≡◌ {A = ℕ} 0 1 = cc in omega arith)
-          inside (no h) = omega arith
+      go false t e = ap (λ l. set l (n - 1) (Some x)) (cond-false _ _ _ t) ∙ ap (λ v. set (set xs (n - 1) None) (n - 1) v) (sym e) ∙ set_back xs (n - 1) None None ∙ set-get_or xs (n - 1) None
 
   -- a number under which nothing is held
   pub gone_same : held xs n ≡ None → cleared xs n ≡ xs
   gone_same e = go (eqb n 0) e
     where
-      same : (ys : List (Option X)) (i : ℕ) → get_or ys i None ≡ None → set ys i None ≡ ys
-      same [] i h = refl
-      same (y ∷ ys) zero h = ap (λ z. z ∷ ys) (sym h)
-      same (y ∷ ys) (suc i) h = ap (λ l. y ∷ l) (same ys i h)
-
       go : (b : Bool) → cond b None (get_or xs (n - 1) None) ≡ None → cond b xs (set xs (n - 1) None) ≡ xs
       go true h = refl
-      go false h = same xs (n - 1) h
+      go false h = ap (λ v. set xs (n - 1) v) (sym h) ∙ set-get_or xs (n - 1) None
 
   pub cleared_held : held (cleared xs n) n ≡ None
   cleared_held = go (eqb n 0)
@@ -76,5 +47,5 @@ module _ {X : Type 0} (xs : List (Option X)) (n : ℕ) where
       go false t e = let p = eqb-false n 0 t in (omega arith, inside (dec_le (length xs) (n - 1)))
         where
           inside : Dec (length xs ≤ n - 1) → n ≤ length xs
-          inside (yes h) = absurd (let p = sym (get_past xs (n - 1) None h) ∙ e in let z : ◌≡◌ {A = ℕ} 0 1 = cc in omega arith)
+          inside (yes h) = absurd (let p = sym (get_or_past xs (n - 1) None h) ∙ e in let z : ◌≡◌ {A = ℕ} 0 1 = cc in omega arith)
           inside (no h) = let p = eqb-false n 0 t in omega arith

@@ -16,32 +16,18 @@ use exchange::state::Exchange;
 use exchange::tokens::{DeliverRefusal, Receipt, SyncRefusal, Ticket};
 use market::interface::Market;
 use protocol::faults::ExchangeFault;
-use records::notices::{Kind, Notice, Party};
-use records::numbers::{CommandNumber, Lots, Member, NoticeNumber, Price};
+use records::notices::Notice;
 use std::alloc::{AllocError, Global};
 
-const NOBODY: Party = Party {
-    order: CommandNumber(0),
-    member: Member(0),
-};
-
-// What stands in a list where no notice has come yet.
-const NO_NOTICE: Notice = Notice {
-    number: NoticeNumber(0),
-    command: CommandNumber(0),
-    kind: Kind::Fill,
-    a: NOBODY,
-    b: NOBODY,
-    price: Price(0),
-    lots: Lots(0),
-};
-
-// What a sync answered, and the ticket, where it comes back.
-struct Synced {
-    answer: Result<HandedOut, ExchangeFault>,
-    back: Option<Ticket>,
+// What a call with a token answered, and the token, where it comes back.
+struct Answered<A, T> {
+    answer: Result<A, ExchangeFault>,
+    back: Option<T>,
 }
 
+// Each act promises `Told`, and asks for room for the token that may come: the one call of all acts, `act`, reserves it.
+// The exchange is lent by whoever runs the script, hand and log are the run's own: a struct of them would be made anew for each
+// act, and name the exchange one step deeper in each clause.
 fn act_stage<M: Market, D: Device>(
     heap: Global,
     exchange: &mut Exchange<M, D>,
@@ -102,23 +88,23 @@ fn sync_with<M: Market, D: Device>(
     ticket: Ticket,
     mut list: Vec<Notice>,
     receipts: &mut Vec<Option<Receipt>>,
-) -> Synced
+) -> Answered<HandedOut, Ticket>
     requires { vec_len receipts.old < vec_capacity receipts.old }
     ensures told { Called M.Market D.Device exchange.old (Sync ticket.numbers (vec_len list) (sync_answer result.answer)) exchange.new }
     ensures receipts { receipts.new.items ≡ receipts.old.items ++ receipt_in result.answer }
     ensures back { result.back ≡ (if ticket_back result.answer then Some ticket else None) }
 {
     match sync_into(exchange, ticket, &mut list) {
-        Ok(receipt) => Synced {
+        Ok(receipt) => Answered {
             answer: Ok(keep(receipt, list, receipts)),
             back: None,
         },
         Err(refusal) => match refusal {
-            SyncRefusal::Back(ticket, fault) => Synced {
+            SyncRefusal::Back(ticket, fault) => Answered {
                 answer: Err(fault),
                 back: Some(ticket),
             },
-            SyncRefusal::Spent(fault) => Synced {
+            SyncRefusal::Spent(fault) => Answered {
                 answer: Err(fault),
                 back: None,
             },
@@ -137,35 +123,32 @@ fn act_sync<M: Market, D: Device>(
     ensures told { IfOk result (λ e. Told M.Market D.Device exchange.old e exchange.new) }
     ensures made { IfOk result (λ e. (made e ≡ with_ticket (held hand.old.tickets.items number) room) × (tokens_of hand.new ≡ after_entry (tokens_of hand.old) number e)) }
 {
-    let list = vec![in heap; NO_NOTICE; room]?;
+    let list = vec![in heap; Notice::default(); room]?;
     let Some(ticket) = take_token(&mut hand.tickets, number) else {
         return Ok(Entry::Spent);
     };
     let numbers = ticket.numbers();
-    let Synced { answer, back } = sync_with(exchange, ticket, list, &mut hand.receipts);
+    let Answered { answer, back } = sync_with(exchange, ticket, list, &mut hand.receipts);
     put_back(&mut hand.tickets, number, back);
     Ok(Entry::Sync(numbers, room, answer))
 }
 
-// What a delivery answered, and the receipt, where it comes back.
-struct Delivered {
-    answer: Result<(), ExchangeFault>,
-    back: Option<Receipt>,
-}
-
 // A delivery of a receipt that is at hand no more.
-fn deliver_with<M: Market, D: Device>(exchange: &mut Exchange<M, D>, receipt: Receipt) -> Delivered
+fn deliver_with<M: Market, D: Device>(
+    exchange: &mut Exchange<M, D>,
+    receipt: Receipt,
+) -> Answered<(), Receipt>
     ensures told { Called M.Market D.Device exchange.old (Deliver receipt.numbers result.answer) exchange.new }
     ensures back { result.back ≡ (if receipt_back result.answer then Some receipt else None) }
 {
     match exchange.deliver(receipt) {
-        Ok(()) => Delivered {
+        Ok(()) => Answered {
             answer: Ok(()),
             back: None,
         },
         Err(refusal) => {
             let DeliverRefusal { receipt, fault } = refusal;
-            Delivered {
+            Answered {
                 answer: Err(fault),
                 back: Some(receipt),
             }
@@ -173,6 +156,8 @@ fn deliver_with<M: Market, D: Device>(exchange: &mut Exchange<M, D>, receipt: Re
     }
 }
 
+// An act takes the half of the hand that it needs, so that the other half is lent to nobody; its clause holds whatever is
+// there.
 fn act_deliver<M: Market, D: Device>(
     exchange: &mut Exchange<M, D>,
     receipts: &mut Vec<Option<Receipt>>,
@@ -186,7 +171,7 @@ fn act_deliver<M: Market, D: Device>(
         return Entry::Spent;
     };
     let numbers = receipt.numbers();
-    let Delivered { answer, back } = deliver_with(exchange, receipt);
+    let Answered { answer, back } = deliver_with(exchange, receipt);
     put_back(receipts, number, back);
     Entry::Deliver(numbers, answer)
 }
@@ -219,12 +204,10 @@ fn act_replay<M: Market, D: Device>(
     ensures made { IfOk result (λ e. made e ≡ replays room) }
     ensures tokens { IfOk result (λ e. (ts : List (Option Ticket)) → record { tickets = ts; receipts = receipts.new.items } ≡ after_entry (record { tickets = ts; receipts = receipts.old.items }) 0 e) }
 {
-    let mut list = vec![in heap; NO_NOTICE; room]?;
+    let mut list = vec![in heap; Notice::default(); room]?;
     let answer = match replay_into(exchange, &mut list) {
-        Ok(found) => match found {
-            Some(receipt) => Ok(Some(keep(receipt, list, receipts))),
-            None => Ok(None),
-        },
+        Ok(Some(receipt)) => Ok(Some(keep(receipt, list, receipts))),
+        Ok(None) => Ok(None),
         Err(fault) => Err(fault),
     };
     Ok(Entry::Replay(room, answer))

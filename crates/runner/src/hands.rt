@@ -6,7 +6,8 @@ use crate::log::HandedOut;
 use exchange::tokens::{Receipt, Ticket};
 use records::notices::Notice;
 
-/// All tokens that were answered, each at its number less 1, none where it is gone.
+/// All tokens that were answered, each at its number less 1, none where it is gone. Scripts name tokens by these numbers,
+/// which are counted on from 1: no map is needed.
 pub(crate) struct Hand {
     pub(crate) tickets: Vec<Option<Ticket>>,
     pub(crate) receipts: Vec<Option<Receipt>>,
@@ -18,13 +19,8 @@ pub(crate) fn take_token<T>(tokens: &mut Vec<Option<T>>, number: usize) -> Optio
     ensures rest { tokens.new.items ≡ cleared tokens.old.items number }
     ensures room { (vec_len tokens.new ≡ vec_len tokens.old) × (vec_capacity tokens.new ≡ vec_capacity tokens.old) }
 {
-    if number == 0 {
-        return None;
-    }
-    if number > tokens.len() {
-        return None;
-    }
-    tokens[number - 1].take()
+    let place = number.checked_sub(1)?;
+    tokens.get_mut(place)?.take()
 }
 
 // Puts a token that was taken under this number back, if it came back.
@@ -33,12 +29,12 @@ pub(crate) fn put_back<T>(tokens: &mut Vec<Option<T>>, number: usize, back: Opti
     requires there { (1 ≤ number) × (number ≤ vec_len tokens.old) }
     ensures { tokens.new.items ≡ returned back tokens.old.items number }
 {
-    match back {
-        None => {}
-        Some(token) => match tokens[number - 1].replace(token) {
+    if let Some(token) = back {
+        // A match: a token that is put aside must be seen to be none, and `let .. else` leaves it to be dropped.
+        match tokens[number - 1].replace(token) {
             None => {}
             Some(_) => unreachable(),
-        },
+        }
     }
 }
 

@@ -23,6 +23,7 @@ use std::alloc::{AllocError, Global};
 
 /// What was done: every call with its answer. The entries from `closing` on are those that spent what tickets and receipts
 /// were left.
+// One list and a place in it: the promises are of the whole list.
 #[derive(Drop)]
 pub struct Run {
     pub log: Vec<Entry>,
@@ -83,14 +84,11 @@ fn close_tickets<M: Market, D: Device>(
     ensures room { (vec_len log.new ≤ vec_len log.old + 2 * vec_len tickets.old) × (vec_capacity log.new ≡ vec_capacity log.old) }
 {
     while let Some(held) = tickets.pop() {
-        match held {
-            Some(ticket) => {
-                exchange.restart();
-                let entry = spend(exchange, ticket);
-                log.push_reserved(Entry::Restart);
-                log.push_reserved(entry);
-            }
-            None => {}
+        if let Some(ticket) = held {
+            exchange.restart();
+            let entry = spend(exchange, ticket);
+            log.push_reserved(Entry::Restart);
+            log.push_reserved(entry);
         }
     }
 }
@@ -106,30 +104,25 @@ fn close_receipts<M: Market, D: Device>(
     ensures none { vec_len receipts.new ≡ 0 }
 {
     while let Some(held) = receipts.pop() {
-        match held {
-            Some(receipt) => {
-                let numbers = receipt.numbers();
-                exchange.shelve(receipt);
-                log.push_reserved(Entry::Shelve(numbers));
-            }
-            None => {}
+        if let Some(receipt) = held {
+            let numbers = receipt.numbers();
+            exchange.shelve(receipt);
+            log.push_reserved(Entry::Shelve(numbers));
         }
     }
 }
 
-// Spends every ticket and every receipt, and notes nothing.
+// Spends every ticket and every receipt, and notes nothing. It is not one text with what notes them: that would note by a
+// closure, and what a closure wrote is lost to the proof.
 fn discard<M: Market, D: Device>(exchange: &mut Exchange<M, D>, hand: Hand) {
     let Hand {
         mut tickets,
         mut receipts,
     } = hand;
     while let Some(held) = tickets.pop() {
-        match held {
-            Some(ticket) => {
-                exchange.restart();
-                let _ = spend(exchange, ticket);
-            }
-            None => {}
+        if let Some(ticket) = held {
+            exchange.restart();
+            let _ = spend(exchange, ticket);
         }
     }
     shelve_all(exchange, &mut receipts);
@@ -145,9 +138,8 @@ fn shelve_all<M: Market, D: Device>(
     ensures { vec_len receipts.new ≡ 0 }
 {
     while let Some(held) = receipts.pop() {
-        match held {
-            Some(receipt) => exchange.shelve(receipt),
-            None => {}
+        if let Some(receipt) = held {
+            exchange.shelve(receipt);
         }
     }
 }
@@ -186,7 +178,7 @@ fn run_on<M: Market, D: Device>(
 ) -> Result<Run, RunFault>
     ensures { MatchResult result (λ run. Begun M.Market D.Device exchange.old → Finished M.Market D.Device script.now run.log.items run.closing exchange.new) (λ f. f ≡ NoMemory) }
 {
-    let _ = promises_stand::<M>();
+    promises_stand::<M>();
     let mut hand = Hand {
         tickets: Vec::new(heap),
         receipts: Vec::new(heap),

@@ -23,20 +23,16 @@ impl Store for Cached<'_> {
     ghost lender = { λ s. s.image.ghost_name };
 
     fn count(&self) -> usize {
-        (self.image.len() / 513).min(65536)
+        sectors::count(self.image)
     }
 
-    fn find(&mut self, sector: usize, buffer: &mut Sector) -> bool {
-        if sector >= (self.image.len() / 513).min(65536) {
-            return false;
+    fn find(&self, sector: usize) -> Option<Sector> {
+        if sector >= self.count() {
+            return None;
         }
         match self.queue.newest(sector) {
-            Some(write) => {
-                let bytes = write.bytes;
-                *buffer = bytes;
-                true
-            }
-            None => sectors::find(self.image, sector, buffer),
+            Some(write) => Some(write.bytes),
+            None => sectors::find(self.image, sector),
         }
     }
 

@@ -23,11 +23,11 @@ impl Store for Plain<'_> {
     ghost lender = { λ s. s.image.ghost_name };
 
     fn count(&self) -> usize {
-        (self.image.len() / 513).min(65536)
+        sectors::count(self.image)
     }
 
-    fn find(&mut self, sector: usize, buffer: &mut Sector) -> bool {
-        sectors::find(self.image, sector, buffer)
+    fn find(&self, sector: usize) -> Option<Sector> {
+        sectors::find(self.image, sector)
     }
 
     fn put(&mut self, write: Pending) {

@@ -1,6 +1,6 @@
 //! What a drive keeps its sectors in: an image, and writes that wait to be put down in it.
 ghost use Rattle.std.specs.Prelude.{◌≡◌, ℕ, List, [], ◌∷◌, ◌++◌};
-ghost use Rattle.image.specs.Image.{filled, readable, seen, size_of};
+ghost use Rattle.image.specs.Image.{bytes_of, seen, size_of};
 ghost use Rattle.image.specs.Waiting.{over, put_all, put_some, settled, staying};
 ghost use Rattle.image.specs.declared.pending.Pending.{Pending as Write};
 ghost use Rattle.std.specs.Option.{option_to_list};
@@ -24,13 +24,9 @@ pub trait Store {
     fn count(&self) -> usize
         ensures { result ≡ size_of (image self.now) };
 
-    /// Reads a sector: whether it is readable, and its bytes are then in the buffer.
-    fn find(&mut self, sector: usize, buffer: &mut Sector) -> bool
-        ensures image { image self.new ≡ image self.old }
-        ensures waits { waiting self.new ≡ waiting self.old }
-        ensures found { result ≡ readable (seen (put_all (image self.old) (waiting self.old)) sector) }
-        ensures filled { buffer.new ≡ filled buffer.old (seen (put_all (image self.old) (waiting self.old)) sector) }
-        ensures kept { lender self.new ≡ lender self.old };
+    /// The bytes of a sector, or none where it is torn or lies past the image.
+    fn find(&self, sector: usize) -> Option<Sector>
+        ensures { result ≡ bytes_of (seen (put_all (image self.now) (waiting self.now)) sector) };
 
     /// Takes a write behind those that wait, and puts the oldest down where more than fit then wait.
     fn put(&mut self, write: Pending)

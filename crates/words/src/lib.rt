@@ -1,16 +1,18 @@
 //! Commands from words.
 //!
-//! Proved: words are read only as the command that they spell.
+//! Proved: words are read only as the command that they spell, and a number only as the text writes it.
 //! Trusted: the toolchain.
 #![tactic(auto)]
 
 ghost use Rattle.std.specs.Prelude.{◌≡◌, map, IfOk};
-ghost use Rattle.words.specs.Spellings.{Writes, Enters, Cancels, Spells};
+ghost use Rattle.words.specs.Spellings.{Enters, Cancels, Spells};
 ghost use Rattle.texts.specs.Texts.{side_word};
+ghost use Rattle.words.specs.declared.LineFault.TheVariants.{Number};
 
 use records::commands::{Command, Side};
 use records::numbers::{CommandNumber, Lots, Member, Price};
 use std::fmt;
+use std::str::FromStr;
 
 /// Why a line is no command.
 #[derive(Clone, Copy)]
@@ -48,24 +50,28 @@ impl fmt::Display for LineFault {
     }
 }
 
-fn small_number(text: &str, what: &'static str) -> Result<u32, LineFault>
-    ensures { IfOk result (λ n. Writes text.now n) }
-{
-    match text.parse::<u32>() {
-        Ok(n) => Ok(n),
-        Err(_) => Err(LineFault::Number(what)),
+/// The word for what is named here is no number that fits.
+#[derive(Clone, Copy, Debug)]
+pub struct NoNumber(pub &'static str);
+
+impl From<NoNumber> for LineFault {
+    ghost from_gives = { λ n f. f ≡ Number n.0 };
+
+    fn from(fault: NoNumber) -> LineFault {
+        LineFault::Number(fault.0)
     }
 }
 
-fn large_number(text: &str, what: &'static str) -> Result<u64, LineFault>
-    ensures { IfOk result (λ n. Writes text.now n) }
+/// The number that the text writes, which is to say what is named.
+pub fn number<N: FromStr>(text: &str, what: &'static str) -> Result<N, NoNumber>
+where
+    N::Err: Drop,
+    ensures { IfOk result (λ n. N.from_str_gives text.now (Ok n)) }
 {
-    match text.parse::<u64>() {
-        Ok(n) => Ok(n),
-        Err(_) => Err(LineFault::Number(what)),
-    }
+    text.parse().map_err(|_| NoNumber(what))
 }
 
+// No FromStr: it would have to stand beside Side, in the crate of the records, which knows no words.
 fn side_of(word: &str) -> Result<Side, LineFault>
     ensures { IfOk result (λ s. word.now ≡ side_word s) }
 {
@@ -79,26 +85,20 @@ fn side_of(word: &str) -> Result<Side, LineFault>
 fn enter_of(member: &str, side: &str, price: &str, lots: &str) -> Result<Command, LineFault>
     ensures { IfOk result (Enters member.now side.now price.now lots.now) }
 {
-    let member = small_number(member, "member")?;
-    let side = side_of(side)?;
-    let price = small_number(price, "price")?;
-    let lots = small_number(lots, "number of lots")?;
     Ok(Command::Enter {
-        member: Member(member),
-        side,
-        price: Price(price),
-        lots: Lots(lots),
+        member: Member(number(member, "member")?),
+        side: side_of(side)?,
+        price: Price(number(price, "price")?),
+        lots: Lots(number(lots, "number of lots")?),
     })
 }
 
 fn cancel_of(member: &str, order: &str) -> Result<Command, LineFault>
     ensures { IfOk result (Cancels member.now order.now) }
 {
-    let member = small_number(member, "member")?;
-    let order = large_number(order, "order")?;
     Ok(Command::Cancel {
-        member: Member(member),
-        order: CommandNumber(order),
+        member: Member(number(member, "member")?),
+        order: CommandNumber(number(order, "order")?),
     })
 }
 

@@ -11,15 +11,3 @@ loop-command-preserved g c =
     let e = c.apply_one-at.ensures in
     stands_next m.step (m.means c.args.market.now) c.args.commands.now c.args.list.now c.loop-command.command-index c.loop-command.at c.apply_one-at.result c.loop-command.list c.apply_one-at.new.list (m.means c.loop-command.market) (m.means c.apply_one-at.new.market) _
     c.loop-command-test.true (omega (arith, c.loop-command.invariant.0, c.loop-command.auto.list, c.loop-command-test.true, c.requires)) c.loop-command.invariant e.state e.number e.list e.few
-
-pub returns : goal.returns
-returns g c =
-    let m = g.M.Market in
-    let s = m.means c.args.market.now in
-    let all = take_all c.loop-command.command-index c.args.commands.now c.loop-command-test.false in
-    record {
-      state = c.loop-command.invariant.3 ∙ ap (after_all m.step s) all;
-      number = c.loop-command.invariant.1 ∙ ap (λ l. length (given_by m.step s l)) all;
-      list = c.loop-command.invariant.2 ∙ ap (λ l. over c.args.list.now (given_by m.step s l)) all;
-      few = omega (arith, c.loop-command.invariant.0, c.loop-command.auto.command-index-end);
-    }

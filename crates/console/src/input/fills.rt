@@ -1,19 +1,18 @@
-ghost use Rattle.std.specs.Prelude.{◌≡◌, true, false, [], MatchResult, ◌==◌};
-ghost use Rattle.console.specs.Inputs.{held, Pushed, NoText};
+ghost use Rattle.std.specs.Prelude.{◌≡◌, false, [], length, MatchResult, ◌==◌};
+ghost use Rattle.console.specs.Inputs.{held, is_long, Pushed, NoText};
 
 use super::LineBuffer;
+use arrayvec::ArrayVec;
 use std::str::from_utf8;
 use words::LineFault;
 
 impl LineBuffer {
     /// An empty line.
     pub fn new() -> LineBuffer
-        ensures { (held result ≡ []) × (result.long ≡ false) }
+        ensures { (held result ≡ []) × (is_long result ≡ false) }
     {
         LineBuffer {
-            bytes: [0; 255],
-            len: 0,
-            long: false,
+            bytes: ArrayVec::new(),
         }
     }
 
@@ -21,39 +20,30 @@ impl LineBuffer {
     pub fn push(&mut self, byte: u8)
         ensures { Pushed self.old byte self.new }
     {
-        if self.len < 255 {
-            self.bytes[self.len] = byte;
-            self.len += 1;
-        } else {
-            self.long = true;
-        }
+        let _ = self.bytes.try_push(byte);
     }
 
     /// The next line begins.
     pub fn clear(&mut self)
-        ensures { (held self.new ≡ []) × (self.new.long ≡ false) }
+        ensures { (held self.new ≡ []) × (is_long self.new ≡ false) }
     {
-        self.len = 0;
-        self.long = false;
+        self.bytes.clear();
     }
 
     /// Whether no byte has come.
     pub fn is_empty(&self) -> bool
-        ensures { result ≡ (self.now.len == 0) }
+        ensures { result ≡ (length (held self.now) == 0) }
     {
-        self.len == 0
+        self.bytes.is_empty()
     }
 
     /// The line as text.
     pub fn text(&self) -> Result<&str, LineFault>
-        ensures { MatchResult result (λ t. (t.now ≡ held self.now) × (self.now.long ≡ false)) (NoText self.now) }
+        ensures { MatchResult result (λ t. (t.now ≡ held self.now) × (is_long self.now ≡ false)) (NoText self.now) }
     {
-        if self.long {
+        if self.bytes.is_full() {
             return Err(LineFault::TooLong);
         }
-        match from_utf8(&self.bytes[0..self.len]) {
-            Ok(text) => Ok(text),
-            Err(_) => Err(LineFault::NotText),
-        }
+        from_utf8(&self.bytes).map_err(|_| LineFault::NotText)
     }
 }

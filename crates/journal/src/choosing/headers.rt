@@ -13,7 +13,7 @@ use records::numbers::HouseNumber;
 fn is_of(header: &Header, house: HouseNumber, code: u16) -> bool
     ensures { result ≡ is_own house code header.now }
 {
-    header.house.0 == house.0 && header.market == code
+    header.house == house && header.market == code
 }
 
 /// The good header of this house and this market whose sector this is.
@@ -34,37 +34,24 @@ pub fn own_header<M: Market>(sector: &[u8; 512], house: HouseNumber) -> Option<H
 fn is_second_first(x: SlotHeader, y: SlotHeader) -> bool
     ensures { result ≡ high_first (header_key y) (header_key x) }
 {
-    match first_in_rank::<Latest, SlotHeader>(&[x, y]) {
-        Some(i) => i == 1,
-        None => false,
-    }
+    first_in_rank(&Latest, &[x, y]) == Some(1)
 }
 
 // Of the good headers of two slots the one that stands first in rank.
 fn first_of(zero: Option<Header>, one: Option<Header>) -> Option<SlotHeader>
     ensures { result ≡ first_of zero one }
 {
+    let zero = zero.map(|header| SlotHeader {
+        slot: Slot::Zero,
+        header,
+    });
+    let one = one.map(|header| SlotHeader {
+        slot: Slot::One,
+        header,
+    });
     match (zero, one) {
-        (None, None) => None,
-        (Some(header), None) => Some(SlotHeader {
-            slot: Slot::Zero,
-            header,
-        }),
-        (None, Some(header)) => Some(SlotHeader {
-            slot: Slot::One,
-            header,
-        }),
-        (Some(x), Some(y)) => {
-            let x = SlotHeader {
-                slot: Slot::Zero,
-                header: x,
-            };
-            let y = SlotHeader {
-                slot: Slot::One,
-                header: y,
-            };
-            Some(if is_second_first(x, y) { y } else { x })
-        }
+        (Some(x), Some(y)) => Some(if is_second_first(x, y) { y } else { x }),
+        (x, y) => x.or(y),
     }
 }
 

@@ -5,6 +5,7 @@ use super::{ExchangeFault, JournalFault, Origin};
 use device::DeviceFault;
 use records::refusals::Refusal;
 
+// These are the numbers that are printed of an origin, 0 where it carries none: as options they would be unwrapped at once.
 impl Origin {
     /// The device's own fault, 0 where none is carried.
     pub fn own_fault(self) -> u8
@@ -23,8 +24,7 @@ impl Origin {
         match self {
             Origin::Plain => 0,
             Origin::Device(fault) => fault.sector(),
-            Origin::Market(sector) => sector,
-            Origin::Exchange(sector) => sector,
+            Origin::Market(sector) | Origin::Exchange(sector) => sector,
         }
     }
 

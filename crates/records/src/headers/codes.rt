@@ -2,8 +2,9 @@ ghost use Rattle.std.specs.Prelude.{◌≡◌};
 ghost use Rattle.records.specs.Headers.{counts_good, header_laid_out, header_in_bytes, header_sector_bytes, decoded_header, HeaderComesBack, DecodedHeader, ZerosNoHeader};
 
 use super::Header;
-use crate::buffers::RecordBuffer;
-use crate::little_endian::{take16, take32, take64};
+use crate::buffers::Record;
+use crate::kinds::RecordKind;
+use crate::little_endian::LittleEndian;
 use crate::numbers::{CommandNumber, HouseNumber, LAST_NUMBER, NoticeNumber, PageNumber};
 use crate::sectors::all_zero_from;
 
@@ -11,10 +12,10 @@ use crate::sectors::all_zero_from;
 fn is_laid_out(sector: &[u8; 512]) -> bool
     ensures { result ≡ header_laid_out sector.now }
 {
-    let length = take16(sector, 0);
-    let kind = take16(sector, 2);
-    let blank = take16(sector, 34);
-    length == 36 && kind == 2 && blank == 0
+    let length = u16::take(sector, 0);
+    let kind = u16::take(sector, 2);
+    let blank = u16::take(sector, 34);
+    length == 36 && kind == RecordKind::Header as u16 && blank == 0
 }
 
 impl Header {
@@ -33,11 +34,11 @@ impl Header {
         ensures { result ≡ header_in_bytes sector.now }
     {
         Header {
-            house: HouseNumber(take32(sector, 4)),
-            page: PageNumber(take64(sector, 8)),
-            commands: CommandNumber(take64(sector, 16)),
-            notices: NoticeNumber(take64(sector, 24)),
-            market: take16(sector, 32),
+            house: HouseNumber(u32::take(sector, 4)),
+            page: PageNumber(u64::take(sector, 8)),
+            commands: CommandNumber(u64::take(sector, 16)),
+            notices: NoticeNumber(u64::take(sector, 24)),
+            market: u16::take(sector, 32),
         }
     }
 
@@ -52,11 +53,7 @@ impl Header {
             return None;
         }
         let header = Header::numbers_in(sector);
-        if header.has_good_counts() {
-            Some(header)
-        } else {
-            None
-        }
+        header.has_good_counts().then_some(header)
     }
 
     /// The sector of the header, which decodes to it where it is good.
@@ -64,16 +61,16 @@ impl Header {
         ensures sector { result ≡ header_sector_bytes self.now }
         ensures back { HeaderComesBack self.now }
     {
-        let mut out = RecordBuffer::new();
-        out.put16(36);
-        out.put16(2);
-        out.put32(self.house.0);
-        out.put64(self.page.0);
-        out.put64(self.commands.0);
-        out.put64(self.notices.0);
-        out.put16(self.market);
-        out.put16(0);
-        out.into_sector()
+        let mut out = Record::new();
+        out.put(36u16);
+        out.put(RecordKind::Header as u16);
+        out.put(self.house.0);
+        out.put(self.page.0);
+        out.put(self.commands.0);
+        out.put(self.notices.0);
+        out.put(self.market);
+        out.put(0u16);
+        out.into_array()
     }
 
     /// The good header whose sector this is, whatever its house and market.

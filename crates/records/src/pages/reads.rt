@@ -7,7 +7,8 @@ use super::writes::record_size;
 use super::{Page, PageHead};
 use crate::commands::Command;
 use crate::commands::codes::command_in;
-use crate::little_endian::{take16, take32, take64};
+use crate::kinds::RecordKind;
+use crate::little_endian::LittleEndian;
 use crate::numbers::{CommandNumber, HouseNumber, PageNumber};
 use crate::sectors::all_zero_from;
 
@@ -19,7 +20,7 @@ fn first_in(bytes: &[u8]) -> Option<Command>
     if bytes.len() < 4 {
         return None;
     }
-    let n = take16(bytes, 0) as usize;
+    let n = u16::take(bytes, 0) as usize;
     if n > bytes.len() {
         return None;
     }
@@ -33,27 +34,23 @@ fn commands_in(bytes: &[u8], count: u16) -> Option<Batch>
 {
     let mut commands = Batch::new();
     let mut rest = bytes;
-    for i in 0..count {
+    for _ in 0..count {
         let command = first_in(rest)?;
         let n = record_size(&command) as usize;
         commands.push(command);
         rest = &rest[n..];
     }
-    if rest.is_empty() {
-        Some(commands)
-    } else {
-        None
-    }
+    rest.is_empty().then_some(commands)
 }
 
 // Whether the length, the kind and the two zero bytes are those of a page.
 fn is_laid_out(sector: &[u8; 512]) -> bool
     ensures { result ≡ laid_out sector.now }
 {
-    let total = take16(sector, 0);
-    let kind = take16(sector, 2);
-    let blank = take16(sector, 26);
-    28 <= total && total <= 512 && kind == 1 && blank == 0
+    let total = u16::take(sector, 0);
+    let kind = u16::take(sector, 2);
+    let blank = u16::take(sector, 26);
+    28 <= total && total <= 512 && kind == RecordKind::Page as u16 && blank == 0
 }
 
 // The numbers where a head has them.
@@ -61,9 +58,9 @@ fn head_in(sector: &[u8; 512]) -> PageHead
     ensures { result ≡ head_in sector.now }
 {
     PageHead {
-        house: HouseNumber(take32(sector, 4)),
-        number: PageNumber(take64(sector, 8)),
-        first: CommandNumber(take64(sector, 16)),
+        house: HouseNumber(u32::take(sector, 4)),
+        number: PageNumber(u64::take(sector, 8)),
+        first: CommandNumber(u64::take(sector, 16)),
     }
 }
 
@@ -72,14 +69,14 @@ fn page_in(sector: &[u8; 512]) -> Option<Page>
     ensures { decoded_page sector.now ≡ said result }
 {
     let head = head_in(sector);
-    let count = take16(sector, 24);
+    let count = u16::take(sector, 24);
     if !is_laid_out(sector) {
         return None;
     }
     if !head.has_good_numbers(count as usize) {
         return None;
     }
-    let end = take16(sector, 0) as usize;
+    let end = u16::take(sector, 0) as usize;
     if !all_zero_from(sector, end) {
         return None;
     }
@@ -100,10 +97,10 @@ impl Page {
 fn is_page_of(sector: &[u8; 512], house: HouseNumber, number: PageNumber) -> bool
     ensures { result ≡ bytes_look_for house number sector.now }
 {
-    let kind = take16(sector, 2);
-    let its_house = take32(sector, 4);
-    let its_number = take64(sector, 8);
-    kind == 1 && its_house == house.0 && its_number == number.0
+    let kind = u16::take(sector, 2);
+    let its_house = HouseNumber(u32::take(sector, 4));
+    let its_number = PageNumber(u64::take(sector, 8));
+    kind == RecordKind::Page as u16 && its_house == house && its_number == number
 }
 
 /// Whether the sector is that of this page, good or not: bytes 2 to 15 are kind 1, this house

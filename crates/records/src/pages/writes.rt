@@ -1,13 +1,13 @@
 ghost use Rattle.std.specs.Prelude.{◌≡◌, ◌+◌, ◌*◌, ◌≤◌, true, [], length};
 ghost use Rattle.std.specs.List.{flat_map};
-ghost use Rattle.records.specs.Buffers.{written};
 ghost use Rattle.records.specs.Commands.{encoded};
 ghost use Rattle.records.specs.Pages.{page_of, all_good, numbers_good, good_page, head_bytes, page_sector_bytes, encoded_page, PageKept};
 
 use super::PageHead;
 use super::batches::MOST_COMMANDS;
-use crate::buffers::RecordBuffer;
+use crate::buffers::Record;
 use crate::commands::Command;
+use crate::kinds::RecordKind;
 use crate::numbers::LAST_NUMBER;
 
 // How many bytes the record of a command has.
@@ -23,6 +23,7 @@ pub(crate) fn record_size(command: &Command) -> u16
 }
 
 // How many bytes the records of `commands` have together.
+// A loop: it grows as the joined records do, which a `sum` of the sizes would first have to be shown to equal.
 fn total_size(commands: &[Command]) -> u16
     requires { length commands.now ≤ 16 }
     ensures value { result ≡ length (flat_map encoded commands.now) }
@@ -39,12 +40,7 @@ fn total_size(commands: &[Command]) -> u16
 fn are_good(commands: &[Command]) -> bool
     ensures { result ≡ all_good commands.now }
 {
-    for command in commands {
-        if !command.is_good() {
-            return false;
-        }
-    }
-    true
+    commands.iter().all(|command| command.is_good())
 }
 
 impl PageHead {
@@ -60,18 +56,18 @@ impl PageHead {
     }
 
     // Writes the bytes in front of the commands.
-    fn put(self, out: &mut RecordBuffer, commands: &[Command])
-        requires { (written out.old ≡ []) × (length commands.now ≤ 16) }
-        ensures bytes { written out.new ≡ head_bytes self commands.now }
-        ensures len { length (written out.new) ≡ 28 }
+    fn put(self, out: &mut Record, commands: &[Command])
+        requires { (out.old ≡ []) × (length commands.now ≤ 16) }
+        ensures bytes { out.new ≡ head_bytes self commands.now }
+        ensures len { length out.new ≡ 28 }
     {
-        out.put16(28 + total_size(commands));
-        out.put16(1);
-        out.put32(self.house.0);
-        out.put64(self.number.0);
-        out.put64(self.first.0);
-        out.put16(commands.len() as u16);
-        out.put16(0);
+        out.put(28 + total_size(commands));
+        out.put(RecordKind::Page as u16);
+        out.put(self.house.0);
+        out.put(self.number.0);
+        out.put(self.first.0);
+        out.put(commands.len() as u16);
+        out.put(0u16);
     }
 
     // The sector of the page with this head and these commands.
@@ -79,12 +75,12 @@ impl PageHead {
         requires { length commands.now ≤ 16 }
         ensures { result ≡ page_sector_bytes (page_of self.now commands.now) }
     {
-        let mut out = RecordBuffer::new();
+        let mut out = Record::new();
         self.put(&mut out, commands);
         for command in commands {
             command.encode_after(&mut out);
         }
-        out.into_sector()
+        out.into_array()
     }
 
     /// The sector of the page with this head and these commands; none where that is no good page.
@@ -92,10 +88,7 @@ impl PageHead {
         ensures sector { result ≡ encoded_page (page_of self commands.now) }
         ensures kept { good_page (page_of self commands.now) ≡ true → PageKept (page_of self commands.now) }
     {
-        if !self.has_good_numbers(commands.len()) {
-            return None;
-        }
-        if !are_good(commands) {
+        if !self.has_good_numbers(commands.len()) || !are_good(commands) {
             return None;
         }
         Some(self.sector(commands))

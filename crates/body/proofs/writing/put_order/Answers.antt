@@ -1,5 +1,8 @@
-use Rattle.body.proofs.Puts.{order_put}
+use Rattle.std.proofs.Common.{rules}
+use Rattle.records.proofs.Pieces.{then}
+use Rattle.body.specs.Layout.{order_bytes}
 use Rattle.body.proofs.writing.put_order.Goals as goal
 
-pub returns : goal.returns
-returns c = order_put c.args.order.now _ c.fields_of-fields.ensures c.put.ensures c.put-2.ensures c.put-3.ensures c.put-4.ensures c.requires
+pub returns-clause-bytes : goal.returns-clause-bytes
+unfolding order_bytes
+returns-clause-bytes c = search (rules, then) depth 8

@@ -8,5 +8,5 @@ bounds-list-n c = sofar_room _ _ _ _ c.loop-notice.invariant.0 c.in-Some.ensures
 pub loop-notice-preserved : goal.loop-notice-preserved
 loop-notice-preserved c = (sofar_more _ _ _ _ c.loop-notice.invariant.0 c.in-Some.ensures.cases, c.fill_first.ensures.capacity ∙ c.loop-notice.invariant.1)
 
-pub returns : goal.returns
-returns c = record { met = sofar_all _ _ _ _ c.loop-notice.invariant.0 c.in_default.ensures.cases; capacity = c.fill_first.ensures.capacity ∙ c.loop-notice.invariant.1 }
+pub returns-clause-met : goal.returns-clause-met
+returns-clause-met c = sofar_all _ _ _ _ c.loop-notice.invariant.0 c.in_default.ensures.cases

@@ -4,22 +4,21 @@ use Rattle.device.specs.Meaning.{bytes}
 use Rattle.journal_io.proofs.Pagings.{whole_head, whole_numbers}
 use Rattle.journal_io.proofs.paging.read_page.Goals as goal
 
-pub returns-else-page-head : goal.returns-else-page-head
-returns-else-page-head g c =
+pub returns-in-Some-decode-clause-did : goal.returns-in-Some-decode-clause-did
+returns-in-Some-decode-clause-did g c =
     let m = g.D.Device.meaning c.args.device.now in
     let h = c.args.head in
     let page = c.in-Some-decode.page in
-    let looks : bytes_look_for h.house h.number c.in-Some.bytes ≡ true = search rules in
-    let here : m.reads c.args.sector ≡ bytes c.in-Some.bytes = search rules in
+    let bs = c.in-Some.bytes in
+    let looks : bytes_look_for h.house h.number bs ≡ true = search rules in
+    let here : m.reads c.args.sector ≡ bytes bs = search rules in
+    let first : page.head.first.0 ≡ h.first.0 = search rules in
     record {
-      did = record {
-        same = search rules;
-        lit = search rules;
-        content = c.in-Some.bytes;
-        here = here;
-        looks = looks;
-        good = whole_head h page.head c.in-Some.bytes (held page.commands) looks c.in-Some-decode.ensures.0 c.if-page-head.false;
-        numbers = whole_numbers h page.head c.in-Some.bytes (held page.commands) looks c.in-Some-decode.ensures.0 c.if-page-head.false c.in-Some-decode.ensures.1;
-      };
-      kept = search rules;
+      same = search rules;
+      lit = search rules;
+      content = bs;
+      here = here;
+      looks = looks;
+      good = whole_head h page.head bs (held page.commands) looks c.in-Some-decode.ensures.0 first;
+      numbers = whole_numbers h page.head bs (held page.commands) looks c.in-Some-decode.ensures.0 first c.in-Some-decode.ensures.1;
     }

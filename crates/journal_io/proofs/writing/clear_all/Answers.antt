@@ -4,11 +4,6 @@ use Rattle.journal_io.specs.Running.{first_writes}
 use Rattle.journal_io.proofs.Rows.{running_append, cut_first}
 use Rattle.journal_io.proofs.writing.clear_all.Goals as goal
 
-pub returns-in_err-clear_headers : goal.returns-in_err-clear_headers
-returns-in_err-clear_headers g c =
-    let e = c.in_err-clear_headers.ensures in
-    record { did = cut_first _ _ first_writes (blanks 8 c.args.journal) _ c.from_residual.result e.did c.from_residual.ensures.1; kept = e.kept }
-
 pub returns : goal.returns
 returns g c =
     let e = c.in_ok-clear_headers.ensures in

@@ -1,6 +1,5 @@
-use Rattle.std.proofs.Common.{◌≡◌, ◌+◌}
 use Rattle.records.proofs.Countings.{Counting}
 use Rattle.records.proofs.counting.count_notices.Given as goal
 
-abbrev pub invariant-loop-notice : goal.invariant-loop-notice
-invariant-loop-notice l = Counting l.initial.last l.initial.notices l.notices l.notice-index × (l.last ≡ l.initial.last + l.notice-index)
+abbrev pub invariant-loop-i : goal.invariant-loop-i
+invariant-loop-i l = Counting l.before.0 l.initial.notices l.notices l.i

@@ -7,25 +7,6 @@ use Rattle.runner.proofs.Places.{gone_same}
 use Rattle.runner.proofs.Tokening.{back_or_gone, taken_leaves}
 use Rattle.runner.proofs.acts.act_deliver.Goals as goal
 
-pub returns-in_default : goal.returns-in_default
-returns-in_default g c =
-    let xs = vec_items c.args.receipts.now in
-    let gone : held xs c.args.number ≡ None = sym c.in_default.ensures.taken in
-    let e : vec_items c.take_token.new.tokens ≡ xs = c.in_default.ensures.rest ∙ gone_same xs c.args.number gone in
-    record {
-      told = refl;
-      made = sym (ap (with_receipt delivers) gone);
-      tokens = λ ts. (λ i. record { tickets = ts; receipts = e i });
-    }
-
-pub put_back-requires : goal.put_back-requires
-put_back-requires g c =
-    let xs = vec_items c.args.receipts.now in
-    let e = c.in-Some.ensures in
-    let l : vec_len c.take_token.new.tokens ≡ length xs = e.room.0 ∙ c.args.receipts.now.ok.0 in
-    let k = taken_leaves xs (vec_items c.take_token.new.tokens) c.args.number c.in-Some.receipt _ (sym e.taken) e.rest l in
-    record { gone = k.0; there = k.1 }
-
 pub returns : goal.returns
 returns g c =
     let xs = vec_items c.args.receipts.now in

@@ -1,12 +1,11 @@
+use Rattle.std.proofs.Common.{true, None, arith}
+use Rattle.std.proofs.lemmas.Grind.{common_steps}
 use Rattle.drives.specs.Drives.{state}
 use Rattle.drives.proofs.Exact.{wake_did}
 use Rattle.drives.proofs.powered.DriveDevice.wake.Goals as goal
 
-pub returns : goal.returns
-returns g c =
-    let own = c.rouse.ensures.own in
-    record {
-      did = wake_did (state g.S.Store.image g.S.Store.waiting c.args.self.now) (state g.S.Store.image g.S.Store.waiting c.rouse.new.self) own;
-      own = own;
-      kept = c.rouse.ensures.kept;
-    }
+pub returns-then-not-self-clause-did : goal.returns-then-not-self-clause-did
+returns-then-not-self-clause-did g c = wake_did (state g.S.Store.image g.S.Store.waiting c.args.self.now) (state g.S.Store.image g.S.Store.waiting (record { store = c.args.self.now.store; lit = true; fuse = None })) (grind (arith, common_steps))
+
+pub returns-else-not-self-clause-did : goal.returns-else-not-self-clause-did
+returns-else-not-self-clause-did g c = wake_did (state g.S.Store.image g.S.Store.waiting c.args.self.now) (state g.S.Store.image g.S.Store.waiting c.args.self.now) (grind (arith, common_steps))

@@ -20,6 +20,6 @@ returns-in-Err g c =
     let w = world_of (rules_of g.M.Market) x in
     let e = c.in-Err.ensures in
     record {
-      did = open_fails w x (view g.M.Market g.D.Device c.restart.new.self) (g.D.Device.meaning c.open_snapshot.new.device) (g.M.Market.means c.open_snapshot.new.market) c.in-Err.fault c.into.result c.in_ok-way.ensures.judged (g.D.Device.lawful c.open_snapshot.new.device) e.did c.into.ensures c.restart.ensures.did;
-      kept = ap g.D.Device.lender c.restart.ensures.kept ∙ e.kept;
+      did = open_fails w x (view g.M.Market g.D.Device c.reset_by.new.self) (g.D.Device.meaning c.open_snapshot.new.device) (g.M.Market.means c.open_snapshot.new.market) c.in-Err.fault c.reset_by.result c.in_ok-way.ensures.judged (g.D.Device.lawful c.open_snapshot.new.device) e.did c.reset_by.ensures.fault c.reset_by.ensures.reset;
+      kept = ap g.D.Device.lender c.reset_by.ensures.kept ∙ e.kept;
     }

@@ -34,7 +34,7 @@ returns-in-Some g c =
     let e = c.in-Ok.ensures in
     let f : There x.device (next_sector w x) head cs n =
     subst (λ o. PageFound x.device (next_sector w x) head (Ok o) n) c.in-Some.is (subst₂ (λ s h. PageFound x.device s h (Ok c.in-Ok.found) n) place c.next_head-head.ensures e.did) in
-    let slice : c.as_slice.result.now ≡ cs = c.as_slice.ensures in
+    let slice : c.as_slice.result.now ≡ cs = c.as_slice.ensures.value in
     let a = c.apply_read.ensures.applied in
     let vs = given w x.market cs in
     let receives : c.apply_read.result.numbers ≡ receipt w x.pages x.commands x.notices x.market cs = a.receipt ∙ ap (receipt w x.pages x.commands x.notices x.market) slice in
@@ -65,7 +65,7 @@ returns-in-Err g c =
     let place : c.page_sector-sector.result ≡ next_sector w x = c.page_sector-sector.ensures.place ∙ (λ i. page_place (c.in_ok-way.ensures.allowed.3 i) (c.next_head-head.ensures i).number.0) in
     let e = c.in-Err.ensures in
     record {
-      did = replay_fails w x (view g.M.Market g.D.Device c.restart.new.self) n (length c.args.list.now) c.in-Err.fault c.into.result c.in_ok-way.ensures.judged (g.D.Device.lawful c.read_page.new.device) (subst₂ (λ s h. PageFound x.device s h (Err c.in-Err.fault) n) place c.next_head-head.ensures e.did) c.into.ensures c.restart.ensures.did;
+      did = replay_fails w x (view g.M.Market g.D.Device c.reset_by.new.self) n (length c.args.list.now) c.in-Err.fault c.reset_by.result c.in_ok-way.ensures.judged (g.D.Device.lawful c.read_page.new.device) (subst₂ (λ s h. PageFound x.device s h (Err c.in-Err.fault) n) place c.next_head-head.ensures e.did) c.reset_by.ensures.fault c.reset_by.ensures.reset;
       list = refl;
-      kept = ap g.D.Device.lender c.restart.ensures.kept ∙ e.kept;
+      kept = ap g.D.Device.lender c.reset_by.ensures.kept ∙ e.kept;
     }

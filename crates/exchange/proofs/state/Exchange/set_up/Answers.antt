@@ -52,8 +52,8 @@ returns-in-Err g c =
     let header : c.header-header.result ≡ header_for w 0 0 0 = c.header-header.ensures.value ∙ ap (λ (z : State g.M.Market.State). header_for (world_of rules z) z.pages z.commands z.notices) r in
     let ops = first_are w c.journal.result (g.M.Market.means c.restart.new.self.market) c.save.new.out c.header-header.result (c.journal.ensures ∙ ap journal a.1) (ap (λ (z : State g.M.Market.State). z.market) r) c.save.ensures header in
     let from = ap g.D.Device.meaning c.restart.ensures.kept in
-    let again : view g.M.Market g.D.Device c.restart-in-Err.new.self ≡ reset w n = c.restart-in-Err.ensures.did ∙ ap (λ (z : State g.M.Market.State). reset (world_of rules z) n) r in
+    let again : view g.M.Market g.D.Device c.reset_by.new.self ≡ reset w n = c.reset_by.ensures.reset ∙ ap (λ (z : State g.M.Market.State). reset (world_of rules z) n) r in
     record {
-      did = cut_off w (open_reasons w x) x (view g.M.Market g.D.Device c.restart-in-Err.new.self) x.device n (set_up_ops w) c.in-Err.fault c.into.result c.in_ok-way.ensures.judged (g.D.Device.lawful c.put_first.new.device) (subst₂ (λ m o. Running m o (Err c.in-Err.fault) n) from ops e.did) c.into.ensures again;
-      kept = ap g.D.Device.lender c.restart-in-Err.ensures.kept ∙ e.kept ∙ ap g.D.Device.lender c.restart.ensures.kept;
+      did = cut_off w (open_reasons w x) x (view g.M.Market g.D.Device c.reset_by.new.self) x.device n (set_up_ops w) c.in-Err.fault c.reset_by.result c.in_ok-way.ensures.judged (g.D.Device.lawful c.put_first.new.device) (subst₂ (λ m o. Running m o (Err c.in-Err.fault) n) from ops e.did) c.reset_by.ensures.fault again;
+      kept = ap g.D.Device.lender c.reset_by.ensures.kept ∙ e.kept ∙ ap g.D.Device.lender c.restart.ensures.kept;
     }

@@ -44,6 +44,6 @@ returns-in-Err g c =
     let e = c.in-Err.ensures in
     let n = m c.put_snapshot.new.device in
     record {
-      did = cut_off w (snapshot_reasons w x) x (view g.M.Market g.D.Device c.restart.new.self) x.device n (snapshot_ops w x) c.in-Err.fault c.into.result c.in_ok-self.ensures.judged (g.D.Device.lawful c.put_snapshot.new.device) (subst (λ o. Running x.device o (Err c.in-Err.fault) n) ops e.did) c.into.ensures c.restart.ensures.did;
-      kept = ap g.D.Device.lender c.restart.ensures.kept ∙ e.kept;
+      did = cut_off w (snapshot_reasons w x) x (view g.M.Market g.D.Device c.reset_by.new.self) x.device n (snapshot_ops w x) c.in-Err.fault c.reset_by.result c.in_ok-self.ensures.judged (g.D.Device.lawful c.put_snapshot.new.device) (subst (λ o. Running x.device o (Err c.in-Err.fault) n) ops e.did) c.reset_by.ensures.fault c.reset_by.ensures.reset;
+      kept = ap g.D.Device.lender c.reset_by.ensures.kept ∙ e.kept;
     }

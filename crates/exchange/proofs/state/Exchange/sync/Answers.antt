@@ -36,16 +36,16 @@ returns-in-Err-perform_all g c =
     let n = m c.perform_all.new.device in
     let e = c.in-Err-perform_all.ensures in
     record {
-      did = cut_off w (sync_reasons w x c.args.ticket.numbers (length c.args.list.now)) x (view g.M.Market g.D.Device c.restart.new.self) x.device n (sync_ops w) c.in-Err-perform_all.fault c.into.result c.in-Ok.ensures.judged (g.D.Device.lawful c.perform_all.new.device) e.did c.into.ensures c.restart.ensures.did;
-      back = cut_spends x.device n (sync_ops w) c.in-Err-perform_all.fault c.into.result e.did c.into.ensures;
+      did = cut_off w (sync_reasons w x c.args.ticket.numbers (length c.args.list.now)) x (view g.M.Market g.D.Device c.reset_by.new.self) x.device n (sync_ops w) c.in-Err-perform_all.fault c.reset_by.result c.in-Ok.ensures.judged (g.D.Device.lawful c.perform_all.new.device) e.did c.reset_by.ensures.fault c.reset_by.ensures.reset;
+      back = cut_spends x.device n (sync_ops w) c.in-Err-perform_all.fault c.reset_by.result e.did c.reset_by.ensures.fault;
       list = refl;
-      kept = ap g.D.Device.lender c.restart.ensures.kept ∙ e.kept;
+      kept = ap g.D.Device.lender c.reset_by.ensures.kept ∙ e.kept;
     }
 
 pub returns-in-WrongPhase : goal.returns-in-WrongPhase
 returns-in-WrongPhase g c = record {
-  did = refused c.in-Err.reason c.in-Err.ensures.judged c.into-in-WrongPhase.ensures refl;
-  back = phase_spends c.into-in-WrongPhase.result (c.into-in-WrongPhase.ensures ∙ ap plain c.in-WrongPhase.is);
+  did = refused c.in-Err.reason c.in-Err.ensures.judged c.into.ensures refl;
+  back = phase_spends c.into.result (c.into.ensures ∙ ap plain c.in-WrongPhase.is);
   list = refl;
   kept = refl;
 }

@@ -25,6 +25,6 @@ returns-in-Err g c =
     let e = c.in-Err.ensures in
     let ran : Running (m d) (write_ops w x) (Err c.in-Err.fault) n = search rules in
     record {
-      did = cut_off w (write_reasons w x) x (view g.M.Market g.D.Device c.restart.new.self) (m d) n (write_ops w x) c.in-Err.fault c.into.result c.in_ok-way.ensures.judged (g.D.Device.lawful c.put_page.new.device) ran c.into.ensures c.restart.ensures.did;
-      kept = ap g.D.Device.lender c.restart.ensures.kept ∙ e.kept;
+      did = cut_off w (write_reasons w x) x (view g.M.Market g.D.Device c.reset_by.new.self) (m d) n (write_ops w x) c.in-Err.fault c.reset_by.result c.in_ok-way.ensures.judged (g.D.Device.lawful c.put_page.new.device) ran c.reset_by.ensures.fault c.reset_by.ensures.reset;
+      kept = ap g.D.Device.lender c.reset_by.ensures.kept ∙ e.kept;
     }

@@ -1,9 +1,8 @@
-use Rattle.std.proofs.Common.{rules}
 use Rattle.journal.proofs.Firsts.{first_is_first}
 use Rattle.journal.proofs.choosing.headers.first_header.Goals as goal
 
-pub returns-in_err-first : goal.returns-in_err-first
-returns-in_err-first g c = record { place = search rules; rank = first_is_first }
+pub returns-in_err-first-clause-rank : goal.returns-in_err-first-clause-rank
+returns-in_err-first-clause-rank g c = first_is_first
 
-pub returns : goal.returns
-returns g c = record { place = search rules; rank = first_is_first }
+pub returns-clause-rank : goal.returns-clause-rank
+returns-clause-rank g c = first_is_first

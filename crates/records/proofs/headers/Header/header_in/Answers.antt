@@ -10,10 +10,6 @@ pub returns-then-not-all_zero_from : goal.returns-then-not-all_zero_from
 unfolding decoded_header
 returns-then-not-all_zero_from c = search rules
 
-pub returns-then-has_good_counts : goal.returns-then-has_good_counts
+pub returns : goal.returns
 unfolding decoded_header
-returns-then-has_good_counts c = search rules
-
-pub returns-else-has_good_counts : goal.returns-else-has_good_counts
-unfolding decoded_header
-returns-else-has_good_counts c = search rules
+returns c = search rules

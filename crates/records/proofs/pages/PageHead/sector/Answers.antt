@@ -4,9 +4,6 @@ use Rattle.records.specs.Pages.{page_sector_bytes}
 use Rattle.records.proofs.PageLaws.{joined_turn}
 use Rattle.records.proofs.pages.PageHead.sector.Goals as goal
 
-pub loop-command-preserved : goal.loop-command-preserved
-loop-command-preserved c = search (rules, joined_turn)
-
 pub returns : goal.returns
 unfolding page_sector_bytes
 returns c = let t = take_all c.loop-command.command-index c.args.commands.now c.loop-command-test.false in search rules

@@ -1,7 +1,0 @@
-use Rattle.std.proofs.Common.{rules}
-use Rattle.market.proofs.StepLaws.{spent}
-use Rattle.book.specs.Steps.{acted}
-use Rattle.book.proofs.shape.Book.advance.Goals as goal
-
-pub returns-then-self-ge-LAST_NUMBER : goal.returns-then-self-ge-LAST_NUMBER
-returns-then-self-ge-LAST_NUMBER c = (search rules, spent acted _ c.args.command.now _ c.if-self-ge-LAST_NUMBER.true)

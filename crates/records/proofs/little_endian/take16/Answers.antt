@@ -1,6 +1,0 @@
-use Rattle.std.proofs.Common.{sym, ◌∙◌}
-use Rattle.records.proofs.little_endian.take16.Goals as goal
-use Rattle.records.proofs.LittleEndianLaws.{field_2}
-
-pub returns : goal.returns
-returns c = c.from_le_bytes.ensures ∙ sym (field_2 c.args.at c.args.bytes.now)

@@ -1,6 +1,0 @@
-use Rattle.std.proofs.Common.{sym, ◌∙◌}
-use Rattle.records.proofs.little_endian.take32.Goals as goal
-use Rattle.records.proofs.LittleEndianLaws.{field_4}
-
-pub returns : goal.returns
-returns c = c.from_le_bytes.ensures ∙ sym (field_4 c.args.at c.args.bytes.now)
