@@ -1,10 +1,11 @@
 -- One command more of a page, and its notices behind those before.
-use Rattle.std.proofs.Common.{◌≡◌, ℕ, ◌+◌, ◌-◌, ◌*◌, ◌<◌, ◌≤◌, List, [], ◌∷◌, ◌++◌, length, get_or, take, drop, sym, refl, ap, ◌∙◌, append_assoc, append-nil, arith, length-append, length-drop, drop-drop}
+use Rattle.std.proofs.Common.{◌≡◌, ℕ, ◌+◌, ◌-◌, ◌*◌, ◌<◌, ◌≤◌, List, [], ◌∷◌, ◌++◌, length, get_or, take, drop, sym, refl, ap, ◌∙◌, append_assoc, append-nil, arith, length-append}
 use borrow.Rule.Slice.PartMut.{put_mid}
-use Rattle.std.proofs.lemmas.List.{take_at, drop_at, take_all, drop_all, take_more}
+use Rattle.std.proofs.lemmas.List.{take_more}
 use Rattle.records.specs.Notices.{counted}
 use Rattle.records.specs.declared.commands.Command.{Command}
 use Rattle.records.specs.declared.notices.Notice.{Notice}
+use Rattle.market.proofs.ListLaws.{over_more}
 use Rattle.market.specs.Lists.{over}
 use Rattle.batches.specs.Given.{after_all, given_by}
 
@@ -16,15 +17,6 @@ module _ {S : Type 0} (step : S → Command → S × List Notice) where
   pub given_more : (s : S) (xs : List Command) (x : Command) → given_by step s (xs ++ x ∷ []) ≡ given_by step s xs ++ (step (after_all step s xs) x).1
   given_more s [] x = append-nil _
   given_more s (y ∷ xs) x = ap (λ l. (step s y).1 ++ l) (given_more (step s y).0 xs x) ∙ sym (append_assoc (step s y).1 _ _)
-
-pub front_more : (before old new out part : List Notice) (at : ℕ) → at ≡ length old → at ≤ length out → out ≡ over before old → part ≡ over (take (length out - at) (drop at out)) new → put_mid at (length out - at) out part ≡ over before (old ++ new)
-front_more before old new out part at e le eo ep =
-    let left : length (drop at out) ≤ length out - at = omega (arith, length-drop at out) in
-    let front : take at out ≡ old = ap (take at) eo ∙ take_at old _ at (sym e) in
-    let back : drop at out ≡ drop (length old) before = ap (drop at) eo ∙ drop_at old _ at (sym e) in
-    let part_is : part ≡ new ++ drop (length (old ++ new)) before =
-    ep ∙ ap (λ l. new ++ drop (length new) l) (take_all _ _ left ∙ back) ∙ ap (λ l. new ++ l) (drop-drop (length new) (length old) before ∙ ap (λ n. drop n before) (sym (length-append old new))) in
-    ap (λ l. take at out ++ (part ++ l)) (drop_all _ _ left) ∙ ap (λ l. take at out ++ l) (append-nil part ∙ part_is) ∙ ap (λ l. l ++ (new ++ drop (length (old ++ new)) before)) front ∙ sym (append_assoc old new _)
 
 pub length_counted : (k : ℕ) (vs : List Notice) → length (counted k vs) ≡ length vs
 length_counted k [] = refl
@@ -46,6 +38,6 @@ stands_next step s xs before i at n list part now next d lt le (few, long, front
     let gives : given_by step s (take (i + 1) xs) ≡ given_by step s (take i xs) ++ new = ap (given_by step s) more ∙ given_more step s (take i xs) x ∙ ap (λ z. given_by step s (take i xs) ++ (step z x).1) (sym here) in (
       omega arith,
       omega (arith, ap length gives, length-append (given_by step s (take i xs)) new),
-      front_more before (given_by step s (take i xs)) new list part at long le front e-list ∙ ap (over before) (sym gives),
+      over_more before (given_by step s (take i xs)) new list part at long le front e-list ∙ ap (over before) (sym gives),
       e-state ∙ ap (λ z. (step z x).0) here ∙ sym (ap (after_all step s) more ∙ after_more step s (take i xs) x),
     )

@@ -1,28 +1,73 @@
 //! What is asked of the orders of a state.
-ghost use Rattle.std.specs.Prelude.{◌≡◌};
+ghost use Rattle.std.specs.Prelude.{◌≡◌, Bool};
 ghost use Rattle.market.specs.Lists.{all, pairwise, across};
 ghost use Rattle.market.specs.Orders.{before, differ, below, kept};
 ghost use Rattle.market.specs.Resting.{side_sound, sound};
+ghost use Rattle.market.specs.declared.orders.Order.{Order};
 
 use market::orders::Order;
+use market::tables::MOST_ORDERS;
 use rank::Ranking;
 use records::commands::Side;
 use records::numbers::{CommandNumber, LAST_NUMBER};
 
-fn leads_all(side: Side, x: &Order, ys: &[Order]) -> bool
-    ensures { result ≡ all (before side x.now) ys.now }
-{
-    ys.iter().all(|y| side.stands_before(x, y))
+// What two orders may have to do with each other. A trait, so that one text asks it of each pair. (A relation is of two: a
+// struct of them would only be taken apart.)
+trait Relation {
+    ghost related: { Self → Order → Order → Bool };
+
+    fn relates(&self, x: &Order, y: &Order) -> bool
+        ensures { result ≡ related self.now x.now y.now };
 }
 
-// Whether each order stands before each that follows it. (`is_sorted_by` with a closure, in place of the loop, left open
-// that the closure answers as it does.)
-fn are_ranked(side: Side, xs: &[Order]) -> bool
-    ensures { result ≡ pairwise (before side) xs.now }
+// The first stands before the second, on this side.
+impl Relation for Side {
+    ghost related = { before };
+
+    fn relates(&self, x: &Order, y: &Order) -> bool {
+        self.stands_before(x, y)
+    }
+}
+
+// They have not one number.
+#[derive(Drop)]
+struct Distinct;
+
+impl Relation for Distinct {
+    ghost related = { λ _ x y. differ x y };
+
+    fn relates(&self, x: &Order, y: &Order) -> bool {
+        x.number != y.number
+    }
+}
+
+// The first, a buy, is below the second in price.
+#[derive(Drop)]
+struct Apart;
+
+impl Relation for Apart {
+    ghost related = { λ _ x y. below x y };
+
+    fn relates(&self, buy: &Order, sell: &Order) -> bool {
+        buy.price < sell.price
+    }
+}
+
+// Whether an order has this to do with each of the others.
+fn relates_to_all<R: Relation>(relation: &R, x: &Order, ys: &[Order]) -> bool
+    ensures { result ≡ all (R.related relation.now x.now) ys.now }
+{
+    ys.iter().all(|y| relation.relates(x, y))
+}
+
+// Whether each order has this to do with each that follows it. (`is_sorted_by` asks it of neighbours alone, and of three
+// orders the first and the last may still have one number.)
+fn is_pairwise<R: Relation>(relation: &R, xs: &[Order]) -> bool
+    ensures { result ≡ pairwise (R.related relation.now) xs.now }
 {
     let mut left = xs;
     while let [x, rest @ ..] = left {
-        if !leads_all(side, x, rest) {
+        if !relates_to_all(relation, x, rest) {
             return false;
         }
         left = rest;
@@ -30,47 +75,19 @@ fn are_ranked(side: Side, xs: &[Order]) -> bool
     true
 }
 
-// Whether none of the others has this order's number.
-fn differs_from_all(x: &Order, ys: &[Order]) -> bool
-    ensures { result ≡ all (differ x.now) ys.now }
+// Whether each buy has this to do with each sell. (Both sides go together here and below: they are
+// lent from an image, a market or a state, and a struct of the two loans would be made anew for each.)
+fn is_across<R: Relation>(relation: &R, buys: &[Order], sells: &[Order]) -> bool
+    ensures { result ≡ across (R.related relation.now) buys.now sells.now }
 {
-    ys.iter().all(|y| x.number != y.number)
-}
-
-// Whether no two orders have one number. (The loop of `are_ranked` with another test: one text of both would take the test
-// as a closure, of which the same stays open.)
-fn are_distinct(xs: &[Order]) -> bool
-    ensures { result ≡ pairwise differ xs.now }
-{
-    let mut left = xs;
-    while let [x, rest @ ..] = left {
-        if !differs_from_all(x, rest) {
-            return false;
-        }
-        left = rest;
-    }
-    true
-}
-
-// Whether no number is on both sides. (Both sides go together here and below, as the two lists of one state: a struct of them
-// would be the image again, or the market, from which they are lent.)
-fn are_separate(buys: &[Order], sells: &[Order]) -> bool
-    ensures { result ≡ across differ buys.now sells.now }
-{
-    buys.iter().all(|buy| differs_from_all(buy, sells))
-}
-
-fn is_below_all(buy: &Order, sells: &[Order]) -> bool
-    ensures { result ≡ all (below buy.now) sells.now }
-{
-    sells.iter().all(|sell| buy.price < sell.price)
+    buys.iter().all(|buy| relates_to_all(relation, buy, sells))
 }
 
 // Whether every buy is below every sell in price.
 pub(crate) fn are_apart(buys: &[Order], sells: &[Order]) -> bool
     ensures { result ≡ across below buys.now sells.now }
 {
-    buys.iter().all(|buy| is_below_all(buy, sells))
+    is_across(&Apart, buys, sells)
 }
 
 // Whether an order keeps the ranges that it entered with, under one of the first numbers.
@@ -92,7 +109,10 @@ fn all_kept(last: CommandNumber, xs: &[Order]) -> bool
 fn side_is_sound(side: Side, last: CommandNumber, xs: &[Order]) -> bool
     ensures { result ≡ side_sound side last.0 xs.now }
 {
-    xs.len() <= 32 && are_ranked(side, xs) && are_distinct(xs) && all_kept(last, xs)
+    xs.len() <= MOST_ORDERS
+        && is_pairwise(&side, xs)
+        && is_pairwise(&Distinct, xs)
+        && all_kept(last, xs)
 }
 
 // Whether a state is one that a market can be in.
@@ -102,5 +122,5 @@ pub(crate) fn is_sound_state(last: CommandNumber, buys: &[Order], sells: &[Order
     last.0 <= LAST_NUMBER
         && side_is_sound(Side::Buy, last, buys)
         && side_is_sound(Side::Sell, last, sells)
-        && are_separate(buys, sells)
+        && is_across(&Distinct, buys, sells)
 }

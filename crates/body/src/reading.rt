@@ -14,6 +14,7 @@ use crate::writing::write_body;
 use arrayvec::ArrayVec;
 use market::orders::Order;
 use market::resting::RestingOrders;
+use market::tables::MOST_ORDERS;
 use records::little_endian::LittleEndian;
 use records::numbers::{CommandNumber, Lots, Member, Price};
 
@@ -30,7 +31,7 @@ fn get_order(bytes: &[u8], at: usize) -> Order
 }
 
 // Reads n orders, one after another. Orders are counted here, and no slice is: a place is in bytes, from `at` on.
-fn get_orders(bytes: &[u8], at: usize, n: usize) -> ArrayVec<Order, 32>
+fn get_orders(bytes: &[u8], at: usize, n: usize) -> ArrayVec<Order, MOST_ORDERS>
     requires inside { at + 20 * n ≤ length bytes.now }
     requires few { n ≤ 32 }
     ensures { result.items ≡ orders_at bytes.now at n }
@@ -50,7 +51,7 @@ pub fn read_body(from: &[u8; 1536]) -> Option<Image>
     let last = CommandNumber(u64::take(from, 0));
     let bought = u16::take(from, 8) as usize;
     let sold = u16::take(from, 10) as usize;
-    if bought > 32 || sold > 32 {
+    if bought > MOST_ORDERS || sold > MOST_ORDERS {
         return None;
     }
     let buys = get_orders(from, 12, bought);

@@ -1,7 +1,7 @@
 -- The book keeps the laws of a market.
 use Rattle.std.specs.Prelude.{◌≡◌, ℕ, ◌+◌, ◌<◌, ◌≤◌, Bool, true, false, cond, List, [], length, ◌==◌, nat_lt, refl, Some}
 use Rattle.std.proofs.Common.{ap, ◌∙◌, arith, ltb-true}
-use Rattle.std.proofs.lemmas.Bool.{and_parts, both_ways}
+use Rattle.std.proofs.lemmas.Bool.{and_parts, both_ways, and_from}
 use Rattle.records.specs.Commands.{good}
 use Rattle.records.specs.declared.commands.Side.{Side}
 use Rattle.records.specs.declared.commands.Side.TheVariants.{Buy, Sell}
@@ -12,7 +12,7 @@ use Rattle.market.specs.Lists.{all}
 use Rattle.market.specs.Resting.{Resting, nothing, sound, arriving, passed}
 use Rattle.market.specs.Steps.{uncounted}
 use Rattle.market.specs.Orders.{below}
-use Rattle.market.proofs.ListLaws.{true_and, all_in}
+use Rattle.market.proofs.ListLaws.{all_in}
 use Rattle.market.proofs.Sounds.{arriving_kept}
 use Rattle.market.proofs.StepLaws.{stepped_keeps, stepped_few, stepped_counts, stepped_uncounts, all_append, uncounted_of, rested_uncounted, withdrawn_few, withdrawn_uncounted, bounded as orders_bounded}
 use Rattle.records.specs.LittleEndian.{Bytes}
@@ -74,8 +74,8 @@ fill_uncounted Sell n o r k e = uncounted_of n o.number.0 e
 met_uncounted : (s : Side) (n : ℕ) (o : Order) (rs : List Order) → o.number.0 ≡ n → all (uncounted n) (met s o rs).fills ≡ true
 met_uncounted s n = met_ind s (λ o rs m. o.number.0 ≡ n → all (uncounted n) m.fills ≡ true)
     (λ o e. refl) (λ o r rs t e. refl)
-    (λ o r rs t l e. true_and (uncounted n (fill_with s o r o.lots.0)) true (fill_uncounted s n o r o.lots.0 e) refl)
-    (λ o r rs m t l k e. true_and (uncounted n (fill_with s o r r.lots.0)) (all (uncounted n) m.fills) (fill_uncounted s n o r r.lots.0 e) (k e))
+    (λ o r rs t l e. and_from (uncounted n (fill_with s o r o.lots.0)) true (fill_uncounted s n o r o.lots.0 e) refl)
+    (λ o r rs m t l k e. and_from (uncounted n (fill_with s o r r.lots.0)) (all (uncounted n) m.fills) (fill_uncounted s n o r r.lots.0 e) (k e))
 
 traded_uncounted : (s : Side) (n : ℕ) (o : Order) (own opposite : List Order) → o.number.0 ≡ n → all (uncounted n) (traded s o own opposite).notices ≡ true
 traded_uncounted s n o own opposite e = way ((met s o opposite).taker.lots.0 == 0) refl where

@@ -4,12 +4,15 @@ use Rattle.std.proofs.Common.{sym, ap, subst, ◌∙◌, arith, length-append, l
 use Rattle.std.specs.Option.{option_to_list}
 use Rattle.std.proofs.lemmas.Bool.{and_parts}
 use Rattle.std.proofs.lemmas.List.{length-take-le, take_more_set, drop-set-lt, append_assoc, append-nil, drop_more, set_at, length_push, take-append-drop, drop-drop}
+use borrow.Rule.Slice.PartMut.{put_mid}
 use Rattle.records.specs.declared.commands.Side.{Side}
 use Rattle.records.specs.declared.commands.Side.TheVariants.{Buy, Sell}
 use Rattle.records.specs.declared.notices.Notice.{Notice}
 use Rattle.market.specs.declared.orders.Order.{Order}
 use Rattle.market.specs.Lists.{all, pairwise, over}
 use Rattle.market.specs.Orders.{before, other, less, reduced, front, rested}
+use Rattle.market.specs.Steps.{Taken}
+use Rattle.market.proofs.ListLaws.{over_more}
 use Rattle.book.specs.Matching.{trades, fill_with, met, Met, after_fill, traded, Filled, Stopped, MetAll, Traded}
 
 -- what holds of every meeting, by the ways that a meeting goes
@@ -131,11 +134,24 @@ over_push xs ns n v e h =
     let d = drop_more xs (length ns) v (omega arith) in
     ap (λ z. set (ns ++ z) n v) d ∙ set_at ns (slice_index_or xs (length ns) v) (drop (length ns + 1) xs) v n (sym e) ∙ simp (length_push, append_assoc)
 
--- what is left of the order is dropped
+-- what is left of the order rests, or is dropped
 module _ {s : Side} {o : Order} {opposite : List Order} {xs : List Notice} {p : Order} {qs : List Order} {ys : List Notice} {n : ℕ}
     (m : MetAll s o opposite xs p qs ys n) (own : List Order) (some : p.lots.0 ≡ 0 → ⊥) where
   open_lots : nat_eq (met s o opposite).taker.lots.0 0 ≡ false
   open_lots = ne_eqb _ 0 (λ z. some (ap (λ t. t.lots.0) m.taker ∙ z))
+
+  pub remainder_settled : {rs : List Order} {part : List Notice} {k : ℕ} → n ≤ length ys →
+      Taken ((rested s p own).0, option_to_list (rested s p own).1) (take (length ys - n) (drop n ys)) rs part k → Traded (traded s o own opposite) xs rs qs (put_mid n (length ys - n) ys part) (n + k)
+  remainder_settled {rs} {part} {k} le t =
+      let e = open_lots in
+      let w = rw m.taker at t in
+      let new = option_to_list (rested s (met s o opposite).taker own).1 in
+      record {
+        own = simp e w.state;
+        opposite = simp e m.rows;
+        number = simp e (omega (arith, m.number, w.number, length-append (met s o opposite).fills new));
+        list = simp e (over_more xs (met s o opposite).fills new ys part n m.number le m.list w.list);
+      }
 
   pub remainder_dropped : (rs : List Order) (v : Notice) → (rs, Some v) ≡ rested s p own → n < length xs → Traded (traded s o own opposite) xs rs qs (slice_set ys n v) (n + 1)
   remainder_dropped rs v h room =

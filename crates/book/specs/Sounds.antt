@@ -2,7 +2,7 @@
 use Rattle.std.specs.Prelude.{◌≡◌, ℕ, ◌+◌, ◌<◌, ◌≤◌, Bool, true, false, cond, List, ◌++◌, length, ◌==◌, nat_lt, refl}
 use Rattle.std.proofs.Common.{sym, ap, subst, ◌∙◌, arith, length-append, rules, ltb-true}
 use Rattle.std.specs.Option.{option_to_list}
-use Rattle.std.proofs.lemmas.Bool.{and_parts, eqb-false}
+use Rattle.std.proofs.lemmas.Bool.{and_parts, eqb-false, and_from}
 use Rattle.records.specs.declared.numbers.CommandNumber.{CommandNumber}
 use Rattle.records.specs.declared.numbers.Member.{Member}
 use Rattle.records.specs.declared.commands.Side.{Side}
@@ -12,7 +12,7 @@ use Rattle.market.specs.declared.orders.Order.{Order}
 use Rattle.market.specs.Lists.{all, pairwise, across, placed}
 use Rattle.market.specs.Orders.{before, other, below, differ, kept, less, rested, is_of}
 use Rattle.market.specs.Resting.{Resting, sound, passed, withdrawn}
-use Rattle.market.proofs.ListLaws.{true_and, all_weaken, all_placed, across_swap, across_without}
+use Rattle.market.proofs.ListLaws.{all_weaken, all_placed, across_swap, across_without}
 use Rattle.market.proofs.Sounds.{SideSound, Sound, sound_fact, sound_test, side_up, side_tail, side_less, side_placed, all_new, differ_swap, passed_sound, withdrawn_sound}
 use Rattle.book.specs.Matching.{trades, met, traded, Sides, Traded}
 use Rattle.book.specs.Fairness.{LeftOf}
@@ -28,7 +28,7 @@ met_sound s t n = met_ind s (λ o rs m. SideSound t n rs → SideSound t n m.row
 met_all : (p : Order → Bool) → ((r : Order) (n : ℕ) → p r ≡ true → p (less r n) ≡ true) → (s : Side) (o : Order) (rs : List Order) → all p rs ≡ true → all p (met s o rs).rows ≡ true
 met_all p f s = met_ind s (λ o rs m. all p rs ≡ true → all p m.rows ≡ true)
     (λ o q. q) (λ o r rs e q. q)
-    (λ o r rs e l q. let a = and_parts (p r) (all p rs) q in true_and (p (less r o.lots.0)) (all p rs) (f r o.lots.0 a.0) a.1)
+    (λ o r rs e l q. let a = and_parts (p r) (all p rs) q in and_from (p (less r o.lots.0)) (all p rs) (f r o.lots.0 a.0) a.1)
     (λ o r rs m e l k q. k (and_parts (p r) (all p rs) q).1)
 
 -- what is left of an order is the same order
@@ -74,7 +74,7 @@ met_clear : (s : Side) (o : Order) (rs : List Order) → pairwise (before (other
 met_clear s = met_ind s (λ o rs m. pairwise (before (other s)) rs ≡ true → 0 < m.taker.lots.0 → all (beyond s o) m.rows ≡ true)
     (λ o q h. refl)
     (λ o r rs t q h. let a = and_parts (all (before (other s) r) rs) _ q in let b = no_trade s o r t h in
-    true_and (beyond s o r) (all (beyond s o) rs) b (all_weaken (before (other s) r) (beyond s o) rs (λ x k. further s o r x b k) a.0))
+    and_from (beyond s o r) (all (beyond s o) rs) b (all_weaken (before (other s) r) (beyond s o) rs (λ x k. further s o r x b k) a.0))
     (λ o r rs t l q h. absurd (omega arith))
     (λ o r rs m t l k q h. all_weaken (beyond s (less o r.lots.0)) (beyond s o) m.rows (λ x j. unless s o x r.lots.0 j) (k (and_parts (all (before (other s) r) rs) _ q).1 h)) where
       unless : (s : Side) (o x : Order) (n : ℕ) → beyond s (less o n) x ≡ true → beyond s o x ≡ true
@@ -141,7 +141,7 @@ pub book_fact : (h : Resting) → Valid h → Sound h × (across below h.buys h.
 book_fact h v = let a = and_parts (sound h) (across below h.buys h.sells) v in (sound_fact h a.0, a.1)
 
 pub book_test : (h : Resting) → Sound h → across below h.buys h.sells ≡ true → Valid h
-book_test h f b = true_and (sound h) (across below h.buys h.sells) (sound_test h f) b
+book_test h f b = and_from (sound h) (across below h.buys h.sells) (sound_test h f) b
 
 pub entered_valid : (h : Resting) (s : Side) (o : Order) → o.number.0 ≡ h.last + 1 → kept (h.last + 1) o ≡ true → h.last < 1_000_000_000_000 → Valid h → Valid (entered h s o).0
 entered_valid h Buy o new k l v =

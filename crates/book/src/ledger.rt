@@ -17,7 +17,8 @@ use records::notices::Notice;
 use records::numbers::{Lots, Member, Price};
 use ruled_market::rules::Rules;
 
-// An order enters, and trades. Member, side, price and lots are the fields of the command, in its order.
+// An order enters, and trades. Member, side, price and lots are the fields of the command, in its order. (No one
+// text with the other market, where it rests at once: what they share is `arrive` and `settle`.)
 // The list is lent: nothing allocates on the way of a call.
 fn enter(
     resting: &mut RestingOrders,

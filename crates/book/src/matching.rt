@@ -12,6 +12,7 @@ use records::commands::Side;
 use records::notices::Notice;
 use records::numbers::Lots;
 
+// What the side chooses here is a side, and below the order of two: each is in one place.
 fn opposite_of(side: Side) -> Side
     ensures { result ≡ other side }
 {
@@ -40,6 +41,7 @@ fn fill_between(side: Side, taker: &Order, maker: &Order, lots: Lots) -> Notice
 
 // One fill of the entering order with the first in rank, if they trade. (Side, order, table and list are lent together through
 // the steps of one command; a struct of them would be made anew for each step.)
+// `first` asks for the rank order, which is no invariant of the table: the table does not know its side.
 fn fill_first(side: Side, taker: &mut Order, opposite: &mut OrderTable) -> Option<Notice>
     requires { pairwise (before (other side)) (rows opposite.old) ≡ true }
     ensures cases { MatchOption result (Stopped side taker.old (rows opposite.old) taker.new (rows opposite.new))
@@ -58,8 +60,9 @@ fn fill_first(side: Side, taker: &mut Order, opposite: &mut OrderTable) -> Optio
     Some(notice)
 }
 
-// The entering order meets the other side while they trade; the fills go over the front of the list,
-// which is lent, so the answer counts them.
+// The entering order meets the other side while they trade; the fills go over the front of the list, and the answer counts them.
+// `fill_first` asks for the rank order, which the table, not knowing its side, cannot promise.
+// The list is lent: nothing allocates on the way of a call.
 fn meet(side: Side, taker: &mut Order, opposite: &mut OrderTable, list: &mut [Notice]) -> usize
     requires ranked { pairwise (before (other side)) (rows opposite.old) ≡ true }
     requires room { length (rows opposite.old) ≤ length list.old }
@@ -75,6 +78,7 @@ fn meet(side: Side, taker: &mut Order, opposite: &mut OrderTable, list: &mut [No
 }
 
 // An order trades with the other side; what is left of it rests on its own, or is dropped.
+// `meet` asks for the rank order, which the table, not knowing its side, cannot promise.
 // The list is lent: nothing allocates on the way of a call.
 pub(crate) fn trade(
     side: Side,
@@ -96,11 +100,5 @@ pub(crate) fn trade(
     if taker.lots.0 == 0 {
         return n;
     }
-    match own.rest(side, taker) {
-        None => n,
-        Some(dropped) => {
-            list[n] = dropped;
-            n + 1
-        }
-    }
+    n + own.settle(side, taker, &mut list[n..])
 }

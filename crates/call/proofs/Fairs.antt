@@ -1,7 +1,7 @@
 -- A cross is fair.
 use Rattle.std.proofs.Common.{◌≡◌, ℕ, zero, suc, ◌+◌, ◌-◌, ◌<◌, ◌≤◌, Bool, true, false, cond, eqb, ltb, ◌⊎◌, List, [], ◌∷◌, length, take, sym, refl, ap, ◌∙◌, subst, inl, inr, ⊎_elim, arith, rules, ltb-true, eqb-true, leb-true}
 use borrow.Author.Tests.{eqb-false}
-use Rattle.std.proofs.lemmas.Bool.{and_parts}
+use Rattle.std.proofs.lemmas.Bool.{and_parts, and_from}
 use Rattle.records.specs.Commands.{good}
 use Rattle.records.specs.declared.numbers.CommandNumber.{CommandNumber}
 use Rattle.records.specs.declared.numbers.Price.{Price}
@@ -14,7 +14,7 @@ use Rattle.market.specs.Lists.{all, In}
 use Rattle.market.specs.Orders.{accepts, kept, less, reduced, fill, total}
 use Rattle.market.specs.Resting.{Resting, next}
 use Rattle.market.specs.Steps.{Taken}
-use Rattle.market.proofs.ListLaws.{true_and, all_weaken}
+use Rattle.market.proofs.ListLaws.{all_weaken}
 use Rattle.market.proofs.Sounds.{sound_fact}
 use Rattle.market.proofs.StepLaws.{stepped_acts, taken_tells}
 use Rattle.call.specs.Clearing.{lots_in, at_price, clearing}
@@ -72,7 +72,7 @@ reduced_some x xs m l h = way (eqb m x.lots.0) refl where
   way false e =
       let ne = eqb-false m x.lots.0 e in
       let k : ltb 0 (x.lots.0 - m) ≡ true = search rules in
-      true_and (some_lots (less x m)) (all some_lots xs) k (and_parts (some_lots x) (all some_lots xs) h).1
+      and_from (some_lots (less x m)) (all some_lots xs) k (and_parts (some_lots x) (all some_lots xs) h).1
 
 -- an order that is left rested before, or is what is left of the first
 in_reduced : (x : Order) (xs : List Order) (m : ℕ) (q : Order) → In q (reduced (x ∷ xs) m) → In q xs ⊎ (q ≡ less x m)

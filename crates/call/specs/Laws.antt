@@ -1,5 +1,6 @@
 -- The call auction keeps the laws of a market.
 use Rattle.std.specs.Prelude.{◌≡◌, ℕ, zero, suc, ◌+◌, ◌-◌, ◌<◌, ◌≤◌, Bool, true, false, cond, List, [], ◌∷◌, length, ◌==◌, nat_lt, refl, Some}
+use Rattle.std.proofs.lemmas.Bool.{and_from}
 use Rattle.std.proofs.Common.{arith, rules}
 use Rattle.records.specs.Commands.{good}
 use Rattle.records.specs.declared.numbers.CommandNumber.{CommandNumber}
@@ -12,7 +13,6 @@ use Rattle.market.specs.Lists.{all}
 use Rattle.market.specs.Orders.{reduced}
 use Rattle.market.specs.Resting.{Resting, nothing, sound, next, arriving, passed}
 use Rattle.market.specs.Steps.{uncounted}
-use Rattle.market.proofs.ListLaws.{true_and}
 use Rattle.market.proofs.Sounds.{sound_fact, arriving_kept}
 use Rattle.market.proofs.StepLaws.{stepped_keeps, stepped_few, stepped_counts, stepped_uncounts, uncounted_of, rested_few, rested_uncounted, withdrawn_few, withdrawn_uncounted, bounded as orders_bounded}
 use Rattle.records.specs.LittleEndian.{Bytes}
@@ -84,7 +84,7 @@ pairs_uncounted i c p e (suc k) n (b ∷ bs) (s ∷ ss) =
       way : (t : Bool) → all (uncounted i) (pairs c p k (n - pair_lots n b s) (reduced (b ∷ bs) (pair_lots n b s)) (reduced (s ∷ ss) (pair_lots n b s))) ≡ true →
           all (uncounted i) (cond t [] (pair c p n b s ∷ pairs c p k (n - pair_lots n b s) (reduced (b ∷ bs) (pair_lots n b s)) (reduced (s ∷ ss) (pair_lots n b s)))) ≡ true
       way true h = refl
-      way false h = true_and (uncounted i (pair c p n b s)) _ (uncounted_of i c.0 e) h
+      way false h = and_from (uncounted i (pair c p n b s)) _ (uncounted_of i c.0 e) h
 
 crossed_uncounted : (h : Resting) (k : Clearing) → all (uncounted (h.last + 1)) (crossed_at h k).1 ≡ true
 crossed_uncounted h k = way (k.lots.0 == 0) refl where

@@ -1,7 +1,7 @@
 -- Commands keep the call auction sound.
 use Rattle.std.specs.Prelude.{◌≡◌, ℕ, ◌+◌, ◌-◌, ◌*◌, ◌<◌, ◌≤◌, Bool, true, false, cond, List, [], ◌∷◌, length, ◌==◌, ◌≢◌, nat_lt, refl}
 use Rattle.std.proofs.Common.{sym, ap, subst, ◌∙◌, arith, rules, ltb-true, ltb-false, eqb-true, eq-eqb, ne_eqb}
-use Rattle.std.proofs.lemmas.Bool.{and_parts}
+use Rattle.std.proofs.lemmas.Bool.{and_parts, and_from}
 use Rattle.records.specs.declared.numbers.CommandNumber.{CommandNumber}
 use Rattle.records.specs.declared.numbers.Member.{Member}
 use Rattle.records.specs.declared.numbers.Price.{Price}
@@ -13,7 +13,7 @@ use Rattle.market.specs.Lists.{all, across, placed}
 use Rattle.market.specs.Orders.{before, differ, kept, less, rested}
 use Rattle.market.specs.Resting.{Resting, next, passed, withdrawn}
 use Rattle.market.specs.Steps.{Taken}
-use Rattle.market.proofs.ListLaws.{true_and, all_weaken, all_placed, across_swap}
+use Rattle.market.proofs.ListLaws.{all_weaken, all_placed, across_swap}
 use Rattle.market.proofs.Sounds.{SideSound, sound_fact, sound_test, side_up, side_tail, side_less, side_placed, all_new, differ_swap, passed_sound, withdrawn_sound}
 use Rattle.call.specs.declared.clearing.Clearing.{Clearing}
 use Rattle.call.specs.Clearing.{lots_in, offered, clearing, FewLots, Summable}
@@ -41,7 +41,7 @@ taken_sound s j = taken_ind (λ n xs ys. SideSound s j xs → SideSound s j ys) 
 
 taken_all : (p : Order → Bool) → ((x : Order) (n : ℕ) → p x ≡ true → p (less x n) ≡ true) → (n : ℕ) (xs : List Order) → all p xs ≡ true → all p (taken n xs) ≡ true
 taken_all p f = taken_ind (λ n xs ys. all p xs ≡ true → all p ys ≡ true) (λ n q. q) (λ xs q. q)
-    (λ n x xs l q. let a = and_parts (p x) (all p xs) q in true_and (p (less x n)) (all p xs) (f x n a.0) a.1)
+    (λ n x xs l q. let a = and_parts (p x) (all p xs) q in and_from (p (less x n)) (all p xs) (f x n a.0) a.1)
     (λ n x xs ys l k q. k (and_parts (p x) (all p xs) q).1)
 
 pub taken_lots : (n : ℕ) (xs : List Order) → n ≤ lots_in xs → lots_in xs ≡ n + lots_in (taken n xs)

@@ -1,11 +1,9 @@
 //! What the call auction does at each command.
-ghost use Rattle.std.specs.Prelude.{◌≡◌, ◌<◌, ◌≤◌, true, length, vec_capacity};
-ghost use Rattle.std.specs.Option.{option_to_list};
+ghost use Rattle.std.specs.Prelude.{◌≡◌, ◌<◌, ◌≤◌, true, length};
 ghost use Rattle.records.specs.Commands.{in_range};
-ghost use Rattle.market.specs.Orders.{rested};
 ghost use Rattle.market.specs.Resting.{sound, arriving};
 ghost use Rattle.market.specs.Steps.{Taken};
-ghost use Rattle.market.specs.Means.{rows, state_of};
+ghost use Rattle.market.specs.Means.{state_of};
 ghost use Rattle.call.specs.Fairness.{Fair};
 ghost use Rattle.call.specs.Steps.{entered, crossed, acted, Valid};
 ghost use Rattle.call.specs.Laws as laws;
@@ -14,32 +12,14 @@ use crate::clearing::Sides;
 use crate::pairing::pair_all;
 use crate::shape::Crossing;
 use body::image::Image;
-use market::orders::Order;
 use market::resting::RestingOrders;
-use market::tables::OrderTable;
 use records::commands::{Command, Side};
 use records::notices::Notice;
 use records::numbers::{Lots, Member, Price};
 use ruled_market::rules::Rules;
 
-// An order comes to rest, or the notice that its lots are dropped goes to the front of the list.
-// The list is lent: nothing allocates on the way of a call.
-fn settle(side: Side, order: Order, own: &mut OrderTable, list: &mut [Notice]) -> usize
-    requires own_room { 32 ≤ vec_capacity own.old.rows }
-    requires long { 1 ≤ length list.old }
-    ensures rested { Taken ((rested side order (rows own.old)).0, option_to_list (rested side order (rows own.old)).1) list.old (rows own.new) list.new result }
-    ensures capacity { vec_capacity own.new.rows ≡ vec_capacity own.old.rows }
-{
-    match own.rest(side, order) {
-        None => 0,
-        Some(dropped) => {
-            list[0] = dropped;
-            1
-        }
-    }
-}
-
-// An order enters, and rests. Member, side, price and lots are the fields of the command, in its order.
+// An order enters, and rests. Member, side, price and lots are the fields of the command, in its order. (No one
+// text with the other market, where it trades first: what they share is `arrive` and `settle`.)
 // The list is lent: nothing allocates on the way of a call.
 fn enter(
     resting: &mut RestingOrders,
@@ -56,8 +36,8 @@ fn enter(
     let order = resting.arrive(member, price, lots);
     // Which side it rests on is chosen here; `settle` is one text for both.
     match side {
-        Side::Buy => settle(side, order, &mut resting.buys, list),
-        Side::Sell => settle(side, order, &mut resting.sells, list),
+        Side::Buy => resting.buys.settle(side, order, list),
+        Side::Sell => resting.sells.settle(side, order, list),
     }
 }
 
@@ -78,13 +58,7 @@ fn cross(resting: &mut RestingOrders, list: &mut [Notice]) -> usize
     if clearing.lots.0 == 0 {
         return 0;
     }
-    pair_all(
-        resting.last,
-        clearing,
-        &mut resting.buys,
-        &mut resting.sells,
-        list,
-    )
+    pair_all(resting, clearing, list)
 }
 
 impl Rules for Crossing {

@@ -1,12 +1,12 @@
 //! The two sides pair, in rank order, at one price.
-ghost use Rattle.std.specs.Prelude.{◌≡◌, ◌+◌, ◌<◌, ◌≤◌, length, vec_capacity};
+ghost use Rattle.std.specs.Prelude.{◌≡◌, ◌+◌, ◌<◌, ◌≤◌, length};
 ghost use Rattle.market.specs.Means.{rows};
 ghost use Rattle.call.specs.Crossing.{pair, Fillable, Paired, PairedAll};
 
 use crate::clearing::Clearing;
 use market::notes::fill_notice;
 use market::orders::Order;
-use market::tables::OrderTable;
+use market::resting::RestingOrders;
 use records::notices::Notice;
 use records::numbers::{CommandNumber, Lots, Price};
 
@@ -19,46 +19,36 @@ fn pair_of(command: CommandNumber, price: Price, left: Lots, buy: &Order, sell: 
 }
 
 // One pair of the two orders in front.
-fn pair_first(
-    command: CommandNumber,
-    price: Price,
-    left: Lots,
-    buys: &mut OrderTable,
-    sells: &mut OrderTable,
-) -> Notice
+fn pair_first(resting: &mut RestingOrders, price: Price, left: Lots) -> Notice
     requires some { 0 < left.0 }
-    requires fillable { Fillable price.0 left.0 (rows buys.old) (rows sells.old) }
-    ensures paired { Paired command price left.0 (rows buys.old) (rows sells.old) (rows buys.new) (rows sells.new) result }
-    ensures buys_capacity { vec_capacity buys.new.rows ≡ vec_capacity buys.old.rows }
-    ensures sells_capacity { vec_capacity sells.new.rows ≡ vec_capacity sells.old.rows }
+    requires fillable { Fillable price.0 left.0 (rows resting.old.buys) (rows resting.old.sells) }
+    ensures paired { Paired resting.old.last price left.0 (rows resting.old.buys) (rows resting.old.sells) (rows resting.new.buys) (rows resting.new.sells) result }
+    ensures last { resting.new.last ≡ resting.old.last }
 {
-    let buy = buys.as_slice()[0];
-    let sell = sells.as_slice()[0];
-    let notice = pair_of(command, price, left, &buy, &sell);
-    buys.reduce(notice.lots);
-    sells.reduce(notice.lots);
+    let buy = resting.buys.as_slice()[0];
+    let sell = resting.sells.as_slice()[0];
+    let notice = pair_of(resting.last, price, left, &buy, &sell);
+    resting.buys.reduce(notice.lots);
+    resting.sells.reduce(notice.lots);
     notice
 }
 
-// The sides pair until all lots are filled; the fills go over the front of the list, which is lent,
-// so the answer counts them.
+// The sides pair until all lots are filled; the fills go over the front of the list, and the answer counts them.
+// The list is lent: nothing allocates on the way of a call.
 pub(crate) fn pair_all(
-    command: CommandNumber,
+    resting: &mut RestingOrders,
     clearing: Clearing,
-    buys: &mut OrderTable,
-    sells: &mut OrderTable,
     list: &mut [Notice],
 ) -> usize
-    requires fillable { Fillable clearing.price.0 clearing.lots.0 (rows buys.old) (rows sells.old) }
-    requires room { length (rows buys.old) + length (rows sells.old) ≤ length list.old }
-    ensures paired { PairedAll command clearing.price clearing.lots.0 (rows buys.old) (rows sells.old) list.old (rows buys.new) (rows sells.new) list.new result }
-    ensures buys_capacity { vec_capacity buys.new.rows ≡ vec_capacity buys.old.rows }
-    ensures sells_capacity { vec_capacity sells.new.rows ≡ vec_capacity sells.old.rows }
+    requires fillable { Fillable clearing.price.0 clearing.lots.0 (rows resting.old.buys) (rows resting.old.sells) }
+    requires room { length (rows resting.old.buys) + length (rows resting.old.sells) ≤ length list.old }
+    ensures paired { PairedAll resting.old.last clearing.price clearing.lots.0 (rows resting.old.buys) (rows resting.old.sells) list.old (rows resting.new.buys) (rows resting.new.sells) list.new result }
+    ensures last { resting.new.last ≡ resting.old.last }
 {
     let mut left = clearing.lots.0;
     let mut n = 0;
     while left > 0 {
-        let notice = pair_first(command, clearing.price, Lots(left), buys, sells);
+        let notice = pair_first(resting, clearing.price, Lots(left));
         left -= notice.lots.0;
         list[n] = notice;
         n += 1;

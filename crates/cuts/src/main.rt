@@ -67,7 +67,7 @@ static HALF_A: [Call; 7] = [WRITE_0, WRITE_1, SYNC, READ_0, READ_1, SYNC_AGAIN, 
 
 static HALF_B: [Call; 6] = [WRITE_0, WRITE_1, SYNC, READ_0, READ_1, SYNC_AGAIN];
 
-/// What loses its power.
+/// What loses its power, with its title and its calls: each match below is of these three.
 #[derive(Clone, Copy)]
 enum Target {
     WriteBack,

@@ -14,7 +14,8 @@ pub enum DeviceFault {
 }
 
 impl DeviceFault {
-    /// 14, 15 or 16, as the reasons are numbered. A match: variants that carry a sector have no discriminant of their own.
+    /// 14, 15 or 16, as the reasons are numbered, for callers and outputs. A match: variants that carry a sector have no
+    /// discriminant of their own.
     pub fn number(self) -> u8
         ensures { result ≡ number self }
     {

@@ -1,6 +1,7 @@
 //! The sectors of a device from a base on.
-ghost use Rattle.std.specs.Prelude.{◌≡◌, ◌+◌};
+ghost use Rattle.std.specs.Prelude.{◌≡◌, ◌+◌, ◌-◌, ◌<◌, ◌≤◌, MatchResult};
 ghost use Rattle.device.specs.Calls.{DidRead, DidWrite, DidSync, Woken};
+ghost use Rattle.device.specs.declared.fault.DeviceFault.TheVariants.{OutOfRange};
 ghost use Rattle.device.specs.Shift.{shifted, shifted_lawful, told_below};
 
 use crate::{Device, DeviceFault, Sector};
@@ -22,8 +23,20 @@ impl<D> Offset<D> {
     }
 }
 
-// The meaning and the lender are written out in each clause: a model's value cannot name the type of the lender, which the
-// clauses need beside it.
+impl<D: Device> Offset<D> {
+    // The device's number of a sector; a sector past the size here has none.
+    fn below(&self, sector: usize) -> Result<usize, DeviceFault>
+        ensures { MatchResult result (λ t. (sector < (D.Device.meaning self.now.device).size - self.now.base) × (t ≡ self.now.base + sector)) (λ f. ((D.Device.meaning self.now.device).size - self.now.base ≤ sector) × (f ≡ OutOfRange sector)) }
+    {
+        if sector >= self.size() {
+            return Err(DeviceFault::OutOfRange(sector));
+        }
+        Ok(self.base + sector)
+    }
+}
+
+// The meaning and the lender are written out in each clause. (A model was tried: its value cannot name the type of the lender,
+// and a meaning is made of functions, for which the prover has no code. `base` relates two moments, which no type can hold.)
 impl<D: Device> Device for Offset<D> {
     ghost meaning = { λ o. shifted o.base (D.Device.meaning o.device) };
 
@@ -47,11 +60,9 @@ impl<D: Device> Device for Offset<D> {
         ensures own { DidRead (D.Device.meaning self.old.device) (self.old.base + sector) buffer.old (told_below (self.old.base + sector) result) buffer.new (D.Device.meaning self.new.device) }
         ensures base { self.new.base ≡ self.old.base }
     {
-        if sector >= self.size() {
-            return Err(DeviceFault::OutOfRange(sector));
-        }
+        let at = self.below(sector)?;
         self.device
-            .read(self.base + sector, buffer)
+            .read(at, buffer)
             .map_err(|fault| fault.told_of(sector))
     }
 
@@ -61,11 +72,9 @@ impl<D: Device> Device for Offset<D> {
         ensures own { DidWrite (D.Device.meaning self.old.device) (self.old.base + sector) bytes.now (told_below (self.old.base + sector) result) (D.Device.meaning self.new.device) }
         ensures base { self.new.base ≡ self.old.base }
     {
-        if sector >= self.size() {
-            return Err(DeviceFault::OutOfRange(sector));
-        }
+        let at = self.below(sector)?;
         self.device
-            .write(self.base + sector, bytes)
+            .write(at, bytes)
             .map_err(|fault| fault.told_of(sector))
     }
 

@@ -4,6 +4,7 @@ ghost use Rattle.device.specs.Calls.{DidReadWhole};
 
 use crate::{Device, DeviceFault, Sector};
 
+// `kept` relates two moments, which no type can hold.
 /// The bytes of a sector, or none where it is torn.
 pub fn read_whole<D: Device>(device: &mut D, sector: usize) -> Result<Option<Sector>, DeviceFault>
     ensures did { DidReadWhole (D.meaning device.old) sector result (D.meaning device.new) }

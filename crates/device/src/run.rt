@@ -5,7 +5,7 @@ ghost use Rattle.device.specs.Runs.{DidPerform, DidRun, Grown, answer_unless_cut
 
 use crate::{Device, DeviceFault, Sector};
 
-/// A call of a device.
+/// A call of a device. The exchange on paper names its device calls as lists of these.
 #[derive(Clone, Copy)]
 pub enum Operation {
     Read(usize),
@@ -24,6 +24,7 @@ fn unless_cut(answer: Result<(), DeviceFault>) -> Result<(), DeviceFault>
     }
 }
 
+// `kept`, here and below, relates two moments, which no type can hold.
 /// Performs one operation. Only a cut is answered as a fault: what is refused for another reason changes nothing.
 pub fn perform<D: Device>(device: &mut D, operation: &Operation) -> Result<(), DeviceFault>
     ensures did { DidPerform (D.meaning device.old) operation.now result (D.meaning device.new) }

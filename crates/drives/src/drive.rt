@@ -18,6 +18,19 @@ pub type Direct<'a> = Drive<Plain<'a>>;
 /// Up to 8 writes wait, in order; a ninth first puts the oldest down.
 pub type WriteBack<'a> = Drive<Cached<'a>>;
 
+impl<S> Drive<S> {
+    // A drive over a store, lit and without a fuse.
+    fn over(store: S) -> Drive<S>
+        ensures { (result.store ≡ store) × (result.lit ≡ true) × (result.fuse ≡ None) }
+    {
+        Drive {
+            store,
+            lit: true,
+            fuse: None,
+        }
+    }
+}
+
 impl<'a> Drive<Plain<'a>> {
     /// A direct drive over lent bytes, lit and without a fuse.
     pub fn direct(image: &'a mut [u8]) -> Drive<Plain<'a>>
@@ -26,11 +39,7 @@ impl<'a> Drive<Plain<'a>> {
         ensures lit { result.lit ≡ true }
         ensures fuse { result.fuse ≡ None }
     {
-        Drive {
-            store: Plain { image },
-            lit: true,
-            fuse: None,
-        }
+        Drive::over(Plain { image })
     }
 }
 
@@ -42,10 +51,6 @@ impl<'a> Drive<Cached<'a>> {
         ensures power { IfOk result (λ d. (d.lit ≡ true) × (d.fuse ≡ None)) }
     {
         let queue = Queue::new(heap)?;
-        Ok(Drive {
-            store: Cached { image, queue },
-            lit: true,
-            fuse: None,
-        })
+        Ok(Drive::over(Cached { image, queue }))
     }
 }

@@ -47,8 +47,8 @@ impl<S: Store> Drive<S> {
     }
 }
 
-// The state is written out in each clause: a model's value cannot name the type of the lender, which the clauses need
-// beside it.
+// The state is written out in each clause. (A model was tried: its value cannot name the type of the lender, which the
+// clauses need beside the state.)
 impl<S: Store> Device for Drive<S> {
     ghost meaning = { λ d. meaning_of (state S.Store.image S.Store.waiting d) };
 

@@ -43,8 +43,8 @@ impl<'a, S: Store> Schedule<'a, S> {
     }
 }
 
-// The state and the lender are written out in each clause: a model's value cannot name the type of the lender, which the
-// clauses need beside it.
+// The state and the lender are written out in each clause. (A model was tried: its value cannot name the type of the lender,
+// which the clauses need beside the state.)
 impl<S: Store> Device for Schedule<'_, S> {
     ghost meaning = { λ d. meaning_of (state S.Store.image S.Store.waiting d.drive) };
 

@@ -32,7 +32,7 @@ use records::numbers::{CommandNumber, HouseNumber, NoticeNumber, PageNumber};
 use records::pages::PageHead;
 use records::refusals::Refusal;
 
-// The header of these numbers, which have room in its record.
+// The header of these numbers, which have room in its record. (A function of the numbers, so that their types alone say so.)
 fn header_of(
     house: HouseNumber,
     page: PageNumber,
@@ -70,7 +70,8 @@ impl<M: Market, D: Device> Exchange<M, D> {
         self.market.fresh();
     }
 
-    // A fault of the journal resets the exchange, and is then its own.
+    // A fault of the journal resets the exchange, and is then its own. (Each call has a match for it: a closure in `map_err` was
+    // tried in `write`, and left open what the exchange then is.)
     fn reset_by(&mut self, fault: JournalFault) -> ExchangeFault
         ensures reset { Called M.Market D.Device self.old Restart self.new }
         ensures fault { result ≡ of_journal fault }
@@ -196,6 +197,7 @@ impl<M: Market, D: Device> Exchange<M, D> {
                     Err(fault) => Err(SyncRefusal::Spent(self.reset_by(fault))),
                 }
             }
+            // A match of its own: below a flat pattern the proof does not know that the phase is not the reason.
             Err(reason) => match reason {
                 Refusal::WrongPhase => {
                     let Ticket { numbers: _ } = ticket;
@@ -279,8 +281,8 @@ impl<M: Market, D: Device> Exchange<M, D> {
         }
     }
 
-    // Applies the commands of a page that was read, and counts it. (No one text with `apply_staged`: the staged commands could
-    // not be lent from the exchange to a call that changes it.)
+    // Applies the commands of a page that was read, and counts it. (No one text with `apply_staged`: a call that changes the
+    // exchange cannot be lent the exchange's own list, which would have to be copied out for each page.)
     fn apply_read(&mut self, commands: &[Command], list: &mut [Notice]) -> Receipt
         requires some { 1 ≤ length commands.now }
         requires few { self.old.commands.0 + length commands.now ≤ 1000000000000 }
@@ -305,13 +307,11 @@ impl<M: Market, D: Device> Exchange<M, D> {
         let head = self.next_head();
         let sector = way.layout.page_sector(head.number);
         match read_page(&mut self.device, sector, head) {
-            Ok(found) => match found {
-                Some(page) => Ok(Some(self.apply_read(page.commands.as_slice(), list))),
-                None => {
-                    self.phase = Phase::Live;
-                    Ok(None)
-                }
-            },
+            Ok(Some(page)) => Ok(Some(self.apply_read(page.commands.as_slice(), list))),
+            Ok(None) => {
+                self.phase = Phase::Live;
+                Ok(None)
+            }
             Err(fault) => Err(self.reset_by(fault)),
         }
     }

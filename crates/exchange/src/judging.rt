@@ -20,6 +20,7 @@ use protocol::phases::Phase;
 use protocol::tokens::ReceiptNumbers;
 use records::commands::Command;
 use records::numbers::{LAST_NUMBER, NoticeNumber};
+use records::pages::batches::MOST_COMMANDS;
 use records::refusals::Refusal;
 
 /// What a call that is allowed goes on with: the phase that follows, and where pages lie.
@@ -37,7 +38,7 @@ impl<M: Market, D: Device> Exchange<M, D> {
     {
         next_phase(self.phase, Asked::Stage)?;
         let command = Command::decode(bytes)?;
-        if self.staged.len() >= 16 {
+        if self.staged.len() >= MOST_COMMANDS {
             return Err(Refusal::PageFull);
         }
         if self.commands.0 + self.staged.len() as u64 >= LAST_NUMBER {

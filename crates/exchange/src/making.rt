@@ -10,6 +10,7 @@ use journal::slots::Slot;
 use market::interface::Market;
 use protocol::phases::Phase;
 use records::numbers::{CommandNumber, HouseNumber, NoticeNumber, PageNumber};
+use records::pages::batches::MOST_COMMANDS;
 use std::alloc::{AllocError, Global};
 
 /// The numbers of an exchange.
@@ -37,7 +38,7 @@ impl<M: Market, D: Device + Drop> Exchange<M, D> {
         Ok(Exchange {
             house,
             phase: Phase::Dark,
-            staged: Vec::with_capacity(heap, 16)?,
+            staged: Vec::with_capacity(heap, MOST_COMMANDS)?,
             pages: PageNumber(0),
             commands: CommandNumber(0),
             notices: NoticeNumber(0),

@@ -16,7 +16,7 @@ use records::numbers::{CommandNumber, HouseNumber, NoticeNumber, PageNumber};
 pub struct Exchange<M, D> {
     pub(crate) house: HouseNumber,
     pub(crate) phase: Phase,
-    // Its memory is taken when the exchange is made.
+    // Its memory is reserved when the exchange is made, as that of every table (`room`), and a page has at most 16 (`few`).
     pub(crate) staged: Vec<Command>,
     pub(crate) pages: PageNumber,
     pub(crate) commands: CommandNumber,

@@ -18,8 +18,7 @@ use protocol::promises::promises_stand;
 use protocol::tokens::ReceiptNumbers;
 use records::notices::Notice;
 
-// Takes note of a receipt, and shelves it. (Exchange and list are lent by whoever asks: a struct of both would be made anew for
-// each call.)
+// Takes note of a receipt, and shelves it.
 fn note<M: Market, D: Device>(exchange: &mut Exchange<M, D>, receipt: Receipt) -> ReceiptNumbers
     ensures numbers { result ≡ receipt.numbers }
     ensures same { Called M.Market D.Device exchange.old (Shelve receipt.numbers) exchange.new }
@@ -34,14 +33,13 @@ fn give_up<M: Market, D: Device>(exchange: &mut Exchange<M, D>, ticket: Ticket) 
     exchange.restart();
     match exchange.sync(ticket, &mut []) {
         Ok(receipt) => unreachable(),
-        Err(refusal) => match refusal {
-            SyncRefusal::Back(ticket, fault) => unreachable(),
-            SyncRefusal::Spent(_) => {}
-        },
+        Err(SyncRefusal::Back(ticket, fault)) => unreachable(),
+        Err(SyncRefusal::Spent(_)) => {}
     }
 }
 
 // Syncs the page that was just written; the receipt's numbers, if it is answered.
+// (Exchange and list are lent by whoever asks: a struct of both would be made anew for each call.)
 fn sync_page<M: Market, D: Device>(
     exchange: &mut Exchange<M, D>,
     ticket: Ticket,
@@ -51,13 +49,11 @@ fn sync_page<M: Market, D: Device>(
 {
     match exchange.sync(ticket, list) {
         Ok(receipt) => Some(note(exchange, receipt)),
-        Err(refusal) => match refusal {
-            SyncRefusal::Back(ticket, _) => {
-                give_up(exchange, ticket);
-                None
-            }
-            SyncRefusal::Spent(_) => None,
-        },
+        Err(SyncRefusal::Back(ticket, _)) => {
+            give_up(exchange, ticket);
+            None
+        }
+        Err(SyncRefusal::Spent(_)) => None,
     }
 }
 

@@ -14,6 +14,7 @@ pub enum Fate {
 }
 
 /// Two bits for each write, the oldest in the lowest: 0 dropped, 2 torn, 1 and 3 kept.
+// Bits, since a script names plans by this number, and a drill counts through them.
 #[derive(Clone, Copy, PartialEq, Eq, Debug)]
 pub struct Plan {
     pub bits: u32,

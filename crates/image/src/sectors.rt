@@ -6,11 +6,17 @@ ghost use Rattle.image.specs.Waiting.{landed, put_down};
 use crate::{Fate, Pending};
 use device::Sector;
 
+/// The bytes of a sector in an image: its mark, and its 512 bytes.
+pub const MARKED_SECTOR: usize = 513;
+
+/// An image has at most so many sectors; what lies past them is unused.
+pub const MOST_SECTORS: usize = 65536;
+
 /// How many sectors an image has.
 pub fn count(image: &[u8]) -> usize
     ensures { result ≡ size_of image.now }
 {
-    (image.len() / 513).min(65536)
+    (image.len() / MARKED_SECTOR).min(MOST_SECTORS)
 }
 
 // Puts a readable sector down at a place of the image.
@@ -19,7 +25,7 @@ fn put_at(image: &mut [u8], at: usize, bytes: &Sector)
     ensures { image.new ≡ list_put_at image.old at bytes.now }
 {
     image[at] = 0;
-    image[at + 1..at + 513].copy_from_slice(bytes);
+    image[at + 1..at + MARKED_SECTOR].copy_from_slice(bytes);
 }
 
 /// The bytes of a sector, or none where it is torn or lies past the image.
@@ -30,13 +36,13 @@ pub fn find(image: &[u8], sector: usize) -> Option<Sector>
     if sector >= count(image) {
         return None;
     }
-    let at = sector * 513;
+    let at = sector * MARKED_SECTOR;
     if image[at] != 0 {
         return None;
     }
     // A copy: `try_from` of the slice answers a Result that is never an error here.
     let mut bytes = [0; 512];
-    bytes.copy_from_slice(&image[at + 1..at + 513]);
+    bytes.copy_from_slice(&image[at + 1..at + MARKED_SECTOR]);
     Some(bytes)
 }
 
@@ -45,7 +51,7 @@ pub fn lower(image: &mut [u8], write: &Pending)
     ensures { image.new ≡ put_down image.old write.now }
 {
     if write.sector < count(image) {
-        put_at(image, write.sector * 513, &write.bytes);
+        put_at(image, write.sector * MARKED_SECTOR, &write.bytes);
     }
 }
 
@@ -57,7 +63,7 @@ pub fn land(image: &mut [u8], fate: Fate, write: &Pending)
         Fate::Dropped => {}
         Fate::Torn => {
             if write.sector < count(image) {
-                image[write.sector * 513] = 1;
+                image[write.sector * MARKED_SECTOR] = 1;
             }
         }
         Fate::Kept => lower(image, write),

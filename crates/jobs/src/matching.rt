@@ -54,6 +54,7 @@ fn print_body<R: Rules>(rt: &HostRuntime, market: &RestingMarket<R>) -> Result<(
         println!(rt; "body refused {reason}")?;
         return Ok(());
     }
+    // No derived equality: it would ask one of R too, the marker of the rules, and of two types below the market.
     let same = market.last() == copy.last()
         && market.buys() == copy.buys()
         && market.sells() == copy.sells();

@@ -6,7 +6,7 @@ use records::commands::Command;
 use records::numbers::{CommandNumber, HouseNumber, PageNumber};
 use records::pages::batches::MOST_COMMANDS;
 use records::pages::{Page, PageHead};
-use std::alloc::Global;
+use std::alloc::{AllocError, Global};
 use texts::lines::CommandLine;
 
 /// The house number of the pages that are shown.
@@ -99,7 +99,7 @@ impl Taker for Ring {
         if !command.is_good() {
             return Err(range_fault(&command).into());
         }
-        self.staged.push(command).map_err(|_| JobFault::NoMemory)?;
+        self.staged.push(command).map_err(AllocError::from)?;
         if self.staged.len() >= MOST_COMMANDS {
             self.write_page(rt)?;
         }

@@ -61,8 +61,8 @@ pub(crate) fn range_fault(command: &Command) -> LineFault {
     }
 }
 
-/// Hands each line of standard input on under its number, and answers how many newlines came. It counts by hand: an
-/// iterator over bytes enumerates no lines.
+/// Hands each line of standard input on under its number, and answers how many newlines came. A loop over bytes: a line has
+/// fixed memory and need not be UTF-8, where `lines` of a BufReader would allocate each line and answer a fault of input.
 pub fn each_line<
     E: From<io::Error> + From<AllocError>,
     F: FnMut(u64, &LineBuffer) -> Result<(), E>,
@@ -98,16 +98,29 @@ pub fn words_of(heap: Global, line: &str) -> Result<Vec<&str>, AllocError>
     line.split_whitespace().collect(heap)
 }
 
-// What a whole line says.
-fn take_line<T: Taker>(rt: &HostRuntime, taker: &mut T, line: &LineBuffer) -> Result<(), NotTaken> {
-    let words = words_of(rt.alloc(), line.text()?)?;
+/// Hands the words of a line on, where it has any.
+pub fn take_words<E: From<LineFault> + From<AllocError>, F: FnOnce(&[&str]) -> Result<(), E>>(
+    heap: Global,
+    line: &LineBuffer,
+    take: F,
+) -> Result<(), E>
+    requires { F.IsAlwaysCallable take }
+{
+    let words = words_of(heap, line.text()?)?;
     if words.is_empty() {
         return Ok(());
     }
-    taker.take_command(rt, command_of(&words)?)
+    take(&words)
 }
 
-// Takes the commands of the whole input; how many lines were refused.
+// What a whole line says.
+fn take_line<T: Taker>(rt: &HostRuntime, taker: &mut T, line: &LineBuffer) -> Result<(), NotTaken> {
+    take_words(rt.alloc(), line, |words| {
+        taker.take_command(rt, command_of(words)?)
+    })
+}
+
+// Takes the commands of the whole input; how many lines were refused. The closure counts what it refuses: nothing enumerates that.
 pub(crate) fn take_lines<T: Taker>(rt: &HostRuntime, taker: &mut T) -> Result<u64, JobFault> {
     let mut refused: u64 = 0;
     each_line(rt, |line, buffer| match take_line(rt, taker, buffer) {

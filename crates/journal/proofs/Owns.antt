@@ -5,7 +5,7 @@ use Rattle.records.proofs.HeaderLaws.{header_comes_back}
 use Rattle.records.specs.Headers.{decoded_header}
 use Rattle.records.specs.declared.headers.Header.{Header}
 use Rattle.records.specs.declared.numbers.HouseNumber.{HouseNumber}
-use Rattle.journal.specs.Choices.{is_own, own, OwnHeader}
+use Rattle.journal.specs.Choices.{is_own, OwnHeader}
 
 -- the test that the code made, of the market's own code
 pub own_test : (house : HouseNumber) (k code : ℕ) (h : Header) (t : Bool) → k ≡ code → t ≡ is_own house k h → is_own house code h ≡ t

@@ -44,6 +44,6 @@ impl Ranking<SlotHeader> for Latest {
     ghost total = { λ _. high_first_total };
 
     fn stands_before(&self, x: &SlotHeader, y: &SlotHeader) -> bool {
-        (Reverse(x.header.page), x.slot as u8) < (Reverse(y.header.page), y.slot as u8)
+        (Reverse(x.header.page), x.slot) < (Reverse(y.header.page), y.slot)
     }
 }

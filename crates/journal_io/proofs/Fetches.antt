@@ -1,5 +1,6 @@
 -- Sectors read one after another, up to a fault.
-use Rattle.std.proofs.Common.{◌≡◌, ℕ, ◌+◌, ◌<◌, ◌≤◌, Bool, true, false, cond, ◌&&◌, ◌⊎◌, List, [], ◌∷◌, ◌++◌, drop, IsErrAnd, Some, None, Ok, Err, Option, Result, sym, refl, ap, ◌∙◌, subst, inl, inr, arith, Bor}
+use Rattle.std.proofs.Common.{◌≡◌, ℕ, ◌+◌, ◌<◌, ◌≤◌, Bool, true, false, cond, ◌&&◌, ◌⊎◌, List, [], ◌∷◌, ◌++◌, drop, IsErrAnd, Some, None, Ok, Err, Option, Result, sym, refl, ap, ◌∙◌, subst, append_assoc, inl, inr, arith, Bor}
+use Rattle.std.specs.Option.{ok_or, option_map, unwrap_or}
 use Rattle.records.specs.Headers.{counts_good, decoded_header, header_in_bytes, header_laid_out}
 use Rattle.records.specs.declared.headers.Header.{Header}
 use Rattle.records.specs.declared.numbers.HouseNumber.{HouseNumber}
@@ -8,23 +9,23 @@ use Rattle.records.proofs.HeaderLaws.{zeros_no_header}
 use Rattle.rank.specs.Ranked.{high_first}
 use Rattle.device.specs.Meaning.{Meaning, Lawful, bytes, torn}
 use Rattle.device.specs.Calls.{DidRead, Filled}
-use Rattle.device.specs.Runs.{CutBy, CutIn}
+use Rattle.device.specs.Runs.{CutIn}
 use Rattle.device.specs.declared.fault.DeviceFault.{DeviceFault}
 use Rattle.device.specs.declared.fault.DeviceFault.TheVariants.{OutOfRange, Cut, Torn}
 use Rattle.device.specs.declared.run.Operation.{Operation}
 use Rattle.device.specs.declared.run.Operation.TheVariants as op
 use Rattle.journal.specs.Slots.{header_place, body_place}
-use Rattle.journal.specs.Choices.{own_header_in, own, is_own, first_of, in_slot, header_key, chosen, of_slot}
+use Rattle.journal.specs.Choices.{own_header_in, own, is_own, first_of, in_slot, header_key, chosen}
 use Rattle.journal.specs.declared.slots.Slot.{Slot}
 use Rattle.journal.specs.declared.slots.Slot.TheVariants.{Zero, One}
 use Rattle.journal.specs.declared.choosing.SlotHeader.{SlotHeader}
 use Rattle.journal.specs.declared.choosing.Chosen.{Chosen}
 use Rattle.protocol.specs.declared.faults.JournalFault.{JournalFault}
-use Rattle.protocol.specs.declared.faults.JournalFault.TheVariants as fault
+use Rattle.protocol.specs.declared.faults.JournalFault.TheVariants.{NoHeader}
 use Rattle.protocol.specs.Faults.{from_device}
 use Rattle.protocol.specs.Worlds.{World, blank, body_at}
 use Rattle.protocol.specs.Steps.{shown, first_header}
-use Rattle.journal_io.specs.Readings.{BodyRead, at_first, at_second, at_third, HeaderRead, Chose}
+use Rattle.journal_io.specs.Readings.{Fetched, BodyRead, FirstTorn, at_first, at_second, at_third, HeaderRead, Chose, body_reads}
 
 pub body_within : (t : Slot) (size : ℕ) → 9 ≤ size → body_place t + 2 < size
 body_within Zero size h = omega arith
@@ -34,51 +35,54 @@ body_within One size h = omega arith
 pub later_cut : (m n : Meaning) (at s : ℕ) (os : List Operation) → Lawful m → m.lit ≡ true → CutIn m os s n → CutIn m (op.Read at ∷ os) s n
 later_cut m n at s os l on c = inr (m, l, (λ _. on, refl), c)
 
-module _ (m n : Meaning) (t : Slot) (big : 9 ≤ m.size) (lawful : Lawful m) where
-  first_place : body_place t ≡ body_at t 0
-  first_place = omega arith
+-- the first i sectors of a body were read, and are these bytes
+pub data ReadTo (m : Meaning) (t : Slot) (i : ℕ) (xs : List ℕ) : Type 0 where
+  no_part : i ≡ 0 → xs ≡ [] → ReadTo m t i xs
+  one_part : (a : List ℕ) → i ≡ 1 → m.lit ≡ true → m.reads (body_at t 0) ≡ bytes a → xs ≡ a → ReadTo m t i xs
+  two_parts : (a b : List ℕ) → i ≡ 2 → m.lit ≡ true → m.reads (body_at t 0) ≡ bytes a → m.reads (body_at t 1) ≡ bytes b → xs ≡ a ++ b → ReadTo m t i xs
+  all_parts : (a b c : List ℕ) → i ≡ 3 → m.reads (body_at t 0) ≡ bytes a → m.reads (body_at t 1) ≡ bytes b → m.reads (body_at t 2) ≡ bytes c → xs ≡ a ++ (b ++ c) → ReadTo m t i xs
 
-  -- the first read that does not give bytes ends it
-  pub breaks_first : (old new : List ℕ) (f : DeviceFault) (r : Result (List ℕ) JournalFault) → DidRead m (body_place t) old (Err f) new n → IsErrAnd r (λ y. y ≡ from_device f) → BodyRead m t r n
-  breaks_first old new f (Ok x) d e = absurd e
-  breaks_first old new (OutOfRange s) (Err y) d e = absurd (let k = d.1 in let w = body_within t m.size big in omega arith)
-  breaks_first old new (Cut s) (Err y) d e = subst (λ z. BodyRead m t (Err z) n) (sym e) (inl (d.0 ∙ first_place, subst (λ a. CutBy m (op.Read a) n) first_place (d.1, d.2)))
-  breaks_first old new (Torn s) (Err y) d e = subst (λ z. BodyRead m t (Err z) n) (sym e) (d.1.same, at_first (subst (λ a. m.reads a ≡ torn) first_place d.1.here) (d.0 ∙ first_place))
+-- one more sector
+pub one_more : (m n : Meaning) (t : Slot) (i : ℕ) (xs ys new : List ℕ) → i < 3 → ReadTo m t i xs → Filled m (body_at t i) new n → ys ≡ xs ++ new → ReadTo m t (i + 1) ys
+one_more m n t i xs ys new l (no_part e x) f y = one_part new (omega arith) f.was_lit (subst (λ k. m.reads (body_at t k) ≡ bytes new) e f.here) (y ∙ ap (λ z. z ++ new) x)
+one_more m n t i xs ys new l (one_part a e on p x) f y = two_parts a new (omega arith) on p (subst (λ k. m.reads (body_at t k) ≡ bytes new) e f.here) (y ∙ ap (λ z. z ++ new) x)
+one_more m n t i xs ys new l (two_parts a b e on p q x) f y = all_parts a b new (omega arith) p q (subst (λ k. m.reads (body_at t k) ≡ bytes new) e f.here) (y ∙ ap (λ z. z ++ new) x ∙ append_assoc a b new)
+one_more m n t i xs ys new l (all_parts a b c e p q r x) f y = absurd (omega arith)
 
-  module _ (a : List ℕ) (k : Meaning) (one : Filled m (body_place t) a k) where
-    first_read : m.reads (body_at t 0) ≡ bytes a
-    first_read = subst (λ s. m.reads s ≡ bytes a) first_place one.here
+-- a read of the next sector was cut, or met a torn one
+module _ (m n : Meaning) (t : Slot) (lawful : Lawful m) (old new : List ℕ) where
+  cut_there : (s i : ℕ) (xs : List ℕ) → i < 3 → ReadTo m t i xs → DidRead m (body_at t i) old (Err (Cut s)) new n → CutIn m (body_reads t) s n
+  cut_there s i xs l (no_part e x) d = let d = subst (λ k. DidRead m (body_at t k) old (Err (Cut s)) new n) e d in inl (d.0, (d.1, d.2))
+  cut_there s i xs l (one_part a e on p x) d =
+      let d = subst (λ k. DidRead m (body_at t k) old (Err (Cut s)) new n) e d in
+      later_cut m n (body_at t 0) s (op.Read (body_at t 1) ∷ op.Read (body_at t 2) ∷ []) lawful on (inl (d.0, (d.1, d.2)))
+  cut_there s i xs l (two_parts a b e on p q x) d =
+      let d = subst (λ k. DidRead m (body_at t k) old (Err (Cut s)) new n) e d in
+      later_cut m n (body_at t 0) s (op.Read (body_at t 1) ∷ op.Read (body_at t 2) ∷ []) lawful on (later_cut m n (body_at t 1) s (op.Read (body_at t 2) ∷ []) lawful on (inl (d.0, (d.1, d.2))))
+  cut_there s i xs l (all_parts a b c e p q r x) d = absurd (omega arith)
 
-    pub breaks_second : (old new : List ℕ) (f : DeviceFault) (r : Result (List ℕ) JournalFault) → DidRead k (body_place t + 1) old (Err f) new n → IsErrAnd r (λ y. y ≡ from_device f) → BodyRead m t r n
-    breaks_second old new f r d e = go f r (subst (λ z. DidRead z (body_place t + 1) old (Err f) new n) one.same d) e
-      where
-        go : (f : DeviceFault) (r : Result (List ℕ) JournalFault) → DidRead m (body_place t + 1) old (Err f) new n → IsErrAnd r (λ y. y ≡ from_device f) → BodyRead m t r n
-        go f (Ok x) d e = absurd e
-        go (OutOfRange s) (Err y) d e = absurd (let k = d.1 in let w = body_within t m.size big in omega arith)
-        go (Cut s) (Err y) d e = subst (λ z. BodyRead m t (Err z) n) (sym e) (later_cut m n (body_at t 0) s (op.Read (body_at t 1) ∷ op.Read (body_at t 2) ∷ []) lawful one.was_lit (inl (d.0, (d.1, d.2))))
-        go (Torn s) (Err y) d e = subst (λ z. BodyRead m t (Err z) n) (sym e) (d.1.same, at_second a first_read d.1.here d.0)
+  torn_there : (s i : ℕ) (xs : List ℕ) → i < 3 → ReadTo m t i xs → m.reads (body_at t i) ≡ torn → s ≡ body_at t i → FirstTorn m t s
+  torn_there s i xs l (no_part e x) h z = at_first (subst (λ k. m.reads (body_at t k) ≡ torn) e h) (z ∙ ap (body_at t) e)
+  torn_there s i xs l (one_part a e on p x) h z = at_second a p (subst (λ k. m.reads (body_at t k) ≡ torn) e h) (z ∙ ap (body_at t) e)
+  torn_there s i xs l (two_parts a b e on p q x) h z = at_third a b p q (subst (λ k. m.reads (body_at t k) ≡ torn) e h) (z ∙ ap (body_at t) e)
+  torn_there s i xs l (all_parts a b c e p q r x) h z = absurd (omega arith)
 
-    module _ (b : List ℕ) (q : Meaning) (two : Filled k (body_place t + 1) b q) where
-      second_same : q ≡ m
-      second_same = two.same ∙ one.same
+  pub breaks : (i : ℕ) (xs : List ℕ) (f : DeviceFault) (r : Result (List ℕ) JournalFault) → 9 ≤ m.size → i < 3 → ReadTo m t i xs → DidRead m (body_at t i) old (Err f) new n → IsErrAnd r (λ y. y ≡ from_device f) → BodyRead m t r n
+  breaks i xs f (Ok x) big l k d e = absurd e
+  breaks i xs (OutOfRange s) (Err y) big l k d e = absurd (let g = d.1 in let w = body_within t m.size big in omega arith)
+  breaks i xs (Cut s) (Err y) big l k d e = subst (λ z. BodyRead m t (Err z) n) (sym e) (cut_there s i xs l k d)
+  breaks i xs (Torn s) (Err y) big l k d e = subst (λ z. BodyRead m t (Err z) n) (sym e) (d.1.same, torn_there s i xs l k d.1.here d.0)
 
-      second_read : m.reads (body_at t 1) ≡ bytes b
-      second_read = subst (λ z. z.reads (body_place t + 1) ≡ bytes b) one.same two.here
+pub all_read : (m n : Meaning) (t : Slot) (i : ℕ) (xs : List ℕ) → 3 ≤ i → n ≡ m → ReadTo m t i xs → BodyRead m t (Ok xs) n
+all_read m n t i xs l same (all_parts a b c e p q r x) = (same, record { first = a; second = b; third = c; first_read = p; second_read = q; third_read = r; joined = x })
+all_read m n t i xs l same (no_part e x) = absurd (omega arith)
+all_read m n t i xs l same (one_part a e on p x) = absurd (omega arith)
+all_read m n t i xs l same (two_parts a b e on p q x) = absurd (omega arith)
 
-      pub breaks_third : (old new : List ℕ) (f : DeviceFault) (r : Result (List ℕ) JournalFault) → DidRead q (body_place t + 2) old (Err f) new n → IsErrAnd r (λ y. y ≡ from_device f) → BodyRead m t r n
-      breaks_third old new f r d e = go f r (subst (λ z. DidRead z (body_place t + 2) old (Err f) new n) second_same d) e
-        where
-          go : (f : DeviceFault) (r : Result (List ℕ) JournalFault) → DidRead m (body_place t + 2) old (Err f) new n → IsErrAnd r (λ y. y ≡ from_device f) → BodyRead m t r n
-          go f (Ok x) d e = absurd e
-          go (OutOfRange s) (Err y) d e = absurd (let k = d.1 in let w = body_within t m.size big in omega arith)
-          go (Cut s) (Err y) d e = subst (λ z. BodyRead m t (Err z) n) (sym e) (later_cut m n (body_at t 0) s (op.Read (body_at t 1) ∷ op.Read (body_at t 2) ∷ []) lawful one.was_lit (later_cut m n (body_at t 1) s (op.Read (body_at t 2) ∷ []) lawful one.was_lit (inl (d.0, (d.1, d.2)))))
-          go (Torn s) (Err y) d e = subst (λ z. BodyRead m t (Err z) n) (sym e) (d.1.same, at_third a b first_read second_read d.1.here d.0)
-
-      pub reads_all : (c joined : List ℕ) → Filled q (body_place t + 2) c n → joined ≡ a ++ (b ++ c) → BodyRead m t (Ok joined) n
-      reads_all c joined three e = (
-        three.same ∙ second_same,
-        record { first = a; second = b; third = c; first_read = first_read; second_read = second_read; third_read = subst (λ z. z.reads (body_place t + 2) ≡ bytes c) second_same three.here; joined = e },
-      )
+-- the bytes of a header's sector, or zeros where it is torn
+pub header_bytes : (m n : Meaning) (at : ℕ) (o : Option (List ℕ)) (b : List ℕ) → Fetched m at (Ok o) n → b ≡ unwrap_or o blank → HeaderRead m at (Ok b) n
+header_bytes m n at (Some x) b f e = (f.0, f.1, inl (f.2 ∙ ap bytes (sym e)))
+header_bytes m n at None b f e = (f.0, f.1, inr (f.2, e))
 
 -- what a header's sector shows, from the bytes that were taken for it
 module _ {S : Type 0} (w : World S) where
@@ -118,27 +122,9 @@ first_counts house code a b h e = go (own_header_in house code a) (own_header_in
         pick true e = as_good y b One q e
         pick false e = as_good x a Zero p e
 
-pub chosen_is : (a b : Bor (List ℕ)) (o : Option SlotHeader) (c : Chosen) → Some c ≡ chosen a b o → o ≡ Some c.first
-chosen_is a b (Some x) c e = let same : c ≡ record { first = x; sector = of_slot a b x.slot } = cc in ap (λ (z : Chosen). Some z.first) (sym same)
-chosen_is a b None c e = absurd (let z : ◌≡◌ {A = ℕ} 0 1 = cc in omega arith)
-
-pub chosen_none : (a b : Bor (List ℕ)) (o : Option SlotHeader) → None ≡ chosen a b o → o ≡ None
-chosen_none a b (Some x) e = absurd (let z : ◌≡◌ {A = ℕ} 0 1 = cc in omega arith)
-chosen_none a b None e = refl
-
--- the second header's read is cut
-pub second_cut : {S : Type 0} (w : World S) (m k n : Meaning) (f : JournalFault) (r : Result SlotHeader JournalFault) → Lawful m → k ≡ m → m.lit ≡ true → HeaderRead k (header_place One) (Err f) n → IsErrAnd r (λ y. y ≡ f) → Chose w m r n
-second_cut w m k n f (Ok x) l e on h q = absurd q
-second_cut w m k n f (Err y) l e on h q = subst (λ z. Chose w m (Err z) n) (sym q) (go f (subst (λ z. HeaderRead z (header_place One) (Err f) n) e h))
-  where
-    go : (f : JournalFault) → HeaderRead m (header_place One) (Err f) n → Chose w m (Err f) n
-    go (fault.Device (Cut s)) h = later_cut m n (header_place Zero) s (op.Read (header_place One) ∷ []) l on h
-    go (fault.Device (OutOfRange s)) h = h
-    go (fault.Device (Torn s)) h = h
-    go fault.NoHeader h = absurd h
-    go (fault.Refused s) h = h
-    go (fault.OtherLast s) h = h
-    go (fault.BadPage s) h = h
+chosen_is : (a b : Bor (List ℕ)) (o : Option SlotHeader) → option_map (λ (c : Chosen). c.first) (chosen a b o) ≡ o
+chosen_is a b (Some x) = refl
+chosen_is a b None = refl
 
 -- both headers were read
 module _ {S : Type 0} (w : World S) (m k n : Meaning) (zero one : List ℕ) (d : HeaderRead m (header_place Zero) (Ok zero) k) (e : HeaderRead k (header_place One) (Ok one) n) where
@@ -148,8 +134,12 @@ module _ {S : Type 0} (w : World S) (m k n : Meaning) (zero one : List ℕ) (d :
       let s₁ : shown w (m.reads (header_place One)) ≡ own_header_in w.house w.rules.code one = subst (λ z. shown w (z.reads (header_place One)) ≡ own_header_in w.house w.rules.code one) d.0 (shows w k (header_place One) one e.2) in
       (λ i. first_of (s₀ i) (s₁ i))
 
-  pub chose : (h : SlotHeader) → first_of (own_header_in w.house w.rules.code zero) (own_header_in w.house w.rules.code one) ≡ Some h → Chose w m (Ok h) n
+  chose : (h : SlotHeader) → first_of (own_header_in w.house w.rules.code zero) (own_header_in w.house w.rules.code one) ≡ Some h → Chose w m (Ok h) n
   chose h f = (e.0 ∙ d.0, both_shown ∙ f, first_counts w.house w.rules.code zero one h f)
 
-  pub chose_none : first_of (own_header_in w.house w.rules.code zero) (own_header_in w.house w.rules.code one) ≡ None → Chose w m (Err fault.NoHeader) n
-  chose_none f = (e.0 ∙ d.0, both_shown ∙ f)
+  answered : (o : Option SlotHeader) (r : Result SlotHeader JournalFault) → o ≡ first_of (own_header_in w.house w.rules.code zero) (own_header_in w.house w.rules.code one) → r ≡ ok_or o NoHeader → Chose w m r n
+  answered (Some h) r f a = subst (λ z. Chose w m z n) (sym a) (chose h (sym f))
+  answered None r f a = subst (λ z. Chose w m z n) (sym a) (e.0 ∙ d.0, both_shown ∙ sym f)
+
+  pub chose_by : (a b : Bor (List ℕ)) (x : Option Chosen) (o : Option SlotHeader) (r : Result SlotHeader JournalFault) → x ≡ chosen a b (first_of (own_header_in w.house w.rules.code zero) (own_header_in w.house w.rules.code one)) → o ≡ option_map (λ (c : Chosen). c.first) x → r ≡ ok_or o NoHeader → Chose w m r n
+  chose_by a b x o r p q = answered o r (q ∙ ap (option_map (λ (c : Chosen). c.first)) p ∙ chosen_is a b _)

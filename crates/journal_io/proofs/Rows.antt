@@ -1,7 +1,7 @@
 -- Rows of device calls: joined, and with their faults wrapped.
 use Rattle.std.proofs.Common.{◌≡◌, ℕ, zero, suc, ◌+◌, ◌<◌, List, [], ◌∷◌, ◌++◌, IsErrAnd, Ok, Err, Result, sym, refl, ◌∙◌, subst, inl, inr, arith}
 use Rattle.device.specs.Meaning.{Meaning, Lawful}
-use Rattle.device.specs.Runs.{Performed, CutBy, Ran, CutIn, DidRun, DidPerform}
+use Rattle.device.specs.Runs.{Performed, CutBy, Ran, CutIn, DidPerform}
 use Rattle.device.specs.declared.fault.DeviceFault.{DeviceFault}
 use Rattle.device.specs.declared.fault.DeviceFault.TheVariants.{OutOfRange, Cut, Torn}
 use Rattle.device.specs.declared.run.Operation.{Operation}
@@ -12,13 +12,6 @@ use Rattle.protocol.specs.Faults.{from_device}
 use Rattle.protocol.specs.Worlds.{blank}
 use Rattle.protocol.specs.Steps.{blanks}
 use Rattle.journal_io.specs.Running.{Running}
-
--- a cut comes through as the journal's fault
-pub comes_through : (m n : Meaning) (ops : List Operation) (f : DeviceFault) (r : Result (Unit {0}) JournalFault) → DidRun m ops (Err f) n → IsErrAnd r (λ y. y ≡ from_device f) → Running m ops r n
-comes_through m n ops f (Ok x) d e = absurd e
-comes_through m n ops (OutOfRange s) (Err y) d e = absurd d
-comes_through m n ops (Cut s) (Err y) d e = subst (λ z. Running m ops (Err z) n) (sym e) d
-comes_through m n ops (Torn s) (Err y) d e = absurd d
 
 pub cut_append : (m n : Meaning) (xs ys : List Operation) (s : ℕ) → CutIn m xs s n → CutIn m (xs ++ ys) s n
 cut_append m n [] ys s c = absurd c

@@ -1,5 +1,5 @@
 //! Bodies of snapshots, loaded.
-ghost use Rattle.std.specs.Prelude.{◌≡◌, ◌+◌, ◌≤◌, ◌++◌, take};
+ghost use Rattle.std.specs.Prelude.{◌≡◌, ◌≤◌};
 ghost use Rattle.protocol.specs.Worlds.{rules_of};
 ghost use Rattle.journal_io.specs.Opening.{Takes, Opens};
 ghost use Rattle.journal_io.specs.Readings.{BodyRead, Took, TakenBy};
@@ -7,47 +7,29 @@ ghost use Rattle.journal_io.specs.Running.{Running, wake_and_sync};
 
 use crate::reading::choose_header;
 use crate::writing::perform_all;
+use device::Device;
 use device::run::Operation;
-use device::{Device, Sector};
 use journal::choosing::SlotHeader;
 use journal::slots::Slot;
 use market::interface::Market;
 use protocol::faults::JournalFault;
 use records::numbers::{CommandNumber, HouseNumber};
 
-// Copies a sector over the bytes from `at` on.
-fn put_at(out: &mut [u8; 1536], at: usize, sector: &Sector)
-    requires { at + 512 ≤ 1536 }
-    ensures { take (at + 512) out.new ≡ take at out.old ++ sector.now }
-{
-    out[at..at + 512].copy_from_slice(sector);
-}
-
-// Three sectors, one after another. Each has a name and no list is made of them: one that is torn ends the reading there.
-fn join(first: &Sector, second: &Sector, third: &Sector) -> [u8; 1536]
-    ensures { result ≡ first.now ++ (second.now ++ third.now) }
-{
-    let mut body = [0; 1536];
-    put_at(&mut body, 0, first);
-    put_at(&mut body, 512, second);
-    put_at(&mut body, 1024, third);
-    body
-}
-
-// The body of a slot; a torn sector of it is the device's fault.
+// The body of a slot; a torn sector of it is the device's fault. (`i` is which sector; a copy, since a part of the body lent as
+// an array would be a Result that is never an error.)
 fn read_body<D: Device>(device: &mut D, slot: Slot) -> Result<[u8; 1536], JournalFault>
     requires { 9 ≤ (D.meaning device.old).size }
     ensures did { BodyRead (D.meaning device.old) slot result (D.meaning device.new) }
     ensures kept { D.lender device.new ≡ D.lender device.old }
 {
     let at = slot.body_sector();
-    let mut first = [0; 512];
-    let mut second = [0; 512];
-    let mut third = [0; 512];
-    device.read(at, &mut first)?;
-    device.read(at + 1, &mut second)?;
-    device.read(at + 2, &mut third)?;
-    Ok(join(&first, &second, &third))
+    let mut body = [0; 1536];
+    for i in 0..3 {
+        let mut part = [0; 512];
+        device.read(at + i, &mut part)?;
+        body[512 * i..512 * i + 512].copy_from_slice(&part);
+    }
+    Ok(body)
 }
 
 // The market takes a body of so many commands, which began at this sector.

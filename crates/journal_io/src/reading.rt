@@ -29,10 +29,7 @@ fn read_header<D: Device>(device: &mut D, slot: Slot) -> Result<Sector, JournalF
     ensures did { HeaderRead (D.meaning device.old) (header_place slot) result (D.meaning device.new) }
     ensures kept { D.lender device.new ≡ D.lender device.old }
 {
-    match read_sector(device, slot.header_sector())? {
-        Some(bytes) => Ok(bytes),
-        None => Ok([0; 512]),
-    }
+    Ok(read_sector(device, slot.header_sector())?.unwrap_or([0; 512]))
 }
 
 /// The first in rank of the good headers of this house and this market.
@@ -46,8 +43,7 @@ pub fn choose_header<M: Market, D: Device>(
 {
     let zero = read_header(device, Slot::Zero)?;
     let one = read_header(device, Slot::One)?;
-    match first_header::<M>(&zero, &one, house) {
-        Some(chosen) => Ok(chosen.first),
-        None => Err(JournalFault::NoHeader),
-    }
+    first_header::<M>(&zero, &one, house)
+        .map(|chosen| chosen.first)
+        .ok_or(JournalFault::NoHeader)
 }

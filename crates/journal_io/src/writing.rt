@@ -59,7 +59,7 @@ pub fn put_snapshot<D: Device>(
 
 // Zeros over so many sectors of the journal.
 // The sectors are counted here, and no slice is: `i` is which of them. (A journal has at most 4,096 sectors: each call asks for
-// that, since the device and its journal were tested by the caller.)
+// that, since the device and its journal were tested by the caller. A layout in place of the number would ask more.)
 fn blank_journal<D: Device>(device: &mut D, journal: usize) -> Result<(), JournalFault>
     requires { journal ≤ 4096 }
     ensures did { Running (D.meaning device.old) (blanks 8 journal) result (D.meaning device.new) }

@@ -1,17 +1,16 @@
 -- Tests of lists under what is taken out of them or put in.
-use Rattle.std.proofs.Common.{◌≡◌, ◌+◌, ◌≤◌, Bool, true, false, cond, ◌&&◌, List, [], ◌∷◌, length, refl, ap, ◌∙◌, ⊎_elim, arith}
-use Rattle.std.proofs.lemmas.Bool.{and_parts}
-use Rattle.market.specs.Lists.{all, pairwise, across, In, without, placed}
-
-pub true_and : (a b : Bool) → a ≡ true → b ≡ true → (a && b) ≡ true
-true_and a b e f = rw (e, f)
+use Rattle.std.proofs.Common.{◌≡◌, ℕ, ◌+◌, ◌-◌, ◌≤◌, Bool, true, false, cond, List, [], ◌∷◌, ◌++◌, length, take, drop, refl, sym, ap, ◌∙◌, ⊎_elim, arith, append_assoc, append-nil, length-append, length-drop, drop-drop}
+use borrow.Rule.Slice.PartMut.{put_mid}
+use Rattle.std.proofs.lemmas.Bool.{and_parts, and_from}
+use Rattle.std.proofs.lemmas.List.{take_at, drop_at, take_all, drop_all}
+use Rattle.market.specs.Lists.{all, pairwise, across, In, without, placed, over}
 
 module _ {X : Type 0} where
   pub all_weaken : (p q : X → Bool) (xs : List X) → ((x : X) → p x ≡ true → q x ≡ true) → all p xs ≡ true → all q xs ≡ true
   all_weaken p q [] f h = refl
   all_weaken p q (x ∷ xs) f h =
       let a = and_parts (p x) (all p xs) h in
-      true_and (q x) (all q xs) (f x a.0) (all_weaken p q xs f a.1)
+      and_from (q x) (all q xs) (f x a.0) (all_weaken p q xs f a.1)
 
   -- what holds of all holds of one of them
   pub all_in : (p : X → Bool) (x : X) (xs : List X) → In x xs → all p xs ≡ true → p x ≡ true
@@ -26,14 +25,14 @@ module _ {X : Type 0} where
   all_without p q (x ∷ xs) h = way (p x) (all_without p q xs (and_parts (q x) (all q xs) h).1) where
     way : (t : Bool) → all q (without p xs) ≡ true → all q (cond t xs (x ∷ without p xs)) ≡ true
     way true k = (and_parts (q x) (all q xs) h).1
-    way false k = true_and (q x) (all q (without p xs)) (and_parts (q x) (all q xs) h).0 k
+    way false k = and_from (q x) (all q (without p xs)) (and_parts (q x) (all q xs) h).0 k
 
   pub pairwise_without : (p : X → Bool) (b : X → X → Bool) (xs : List X) → pairwise b xs ≡ true → pairwise b (without p xs) ≡ true
   pairwise_without p b [] h = refl
   pairwise_without p b (x ∷ xs) h = way (p x) (pairwise_without p b xs (and_parts (all (b x) xs) (pairwise b xs) h).1) where
     way : (t : Bool) → pairwise b (without p xs) ≡ true → pairwise b (cond t xs (x ∷ without p xs)) ≡ true
     way true k = (and_parts (all (b x) xs) (pairwise b xs) h).1
-    way false k = true_and (all (b x) (without p xs)) (pairwise b (without p xs)) (all_without p (b x) xs (and_parts (all (b x) xs) (pairwise b xs) h).0) k
+    way false k = and_from (all (b x) (without p xs)) (pairwise b (without p xs)) (all_without p (b x) xs (and_parts (all (b x) xs) (pairwise b xs) h).0) k
 
   pub length_without : (p : X → Bool) (xs : List X) → length (without p xs) ≤ length xs
   length_without p [] = omega arith
@@ -48,11 +47,11 @@ module _ {X : Type 0} where
 
   -- put in
   pub all_placed : (b : X → X → Bool) (o : X) (q : X → Bool) (xs : List X) → q o ≡ true → all q xs ≡ true → all q (placed b o xs) ≡ true
-  all_placed b o q [] h u = true_and (q o) true h refl
+  all_placed b o q [] h u = and_from (q o) true h refl
   all_placed b o q (x ∷ xs) h u = way (b o x) (all_placed b o q xs h (and_parts (q x) (all q xs) u).1) where
     way : (t : Bool) → all q (placed b o xs) ≡ true → all q (cond t (o ∷ x ∷ xs) (x ∷ placed b o xs)) ≡ true
-    way true k = true_and (q o) (all q (x ∷ xs)) h u
-    way false k = true_and (q x) (all q (placed b o xs)) (and_parts (q x) (all q xs) u).0 k
+    way true k = and_from (q o) (all q (x ∷ xs)) h u
+    way false k = and_from (q x) (all q (placed b o xs)) (and_parts (q x) (all q xs) u).0 k
 
   pub length_placed : (b : X → X → Bool) (o : X) (xs : List X) → length (placed b o xs) ≡ length xs + 1
   length_placed b o [] = refl
@@ -72,8 +71,8 @@ module _ {X : Type 0} where
       let p = and_parts (all (c x) xs) (pairwise c xs) q in
       way (b o x) refl (pairwise_placed b c k o behind front xs v.1 p.1) where
         way : (t : Bool) → b o x ≡ t → pairwise c (placed b o xs) ≡ true → pairwise c (cond t (o ∷ x ∷ xs) (x ∷ placed b o xs)) ≡ true
-        way true e h = true_and (all (c o) (x ∷ xs)) (pairwise c (x ∷ xs)) (behind x xs e (and_parts (all (c x) xs) (pairwise c xs) q).0 u) q
-        way false e h = true_and (all (c x) (placed b o xs)) (pairwise c (placed b o xs))
+        way true e h = and_from (all (c o) (x ∷ xs)) (pairwise c (x ∷ xs)) (behind x xs e (and_parts (all (c x) xs) (pairwise c xs) q).0 u) q
+        way false e h = and_from (all (c x) (placed b o xs)) (pairwise c (placed b o xs))
             (all_placed b o (c x) xs (front x e (and_parts (k x) (all k xs) u).0) (and_parts (all (c x) xs) (pairwise c xs) q).0) h
 
   -- the other way round
@@ -86,7 +85,7 @@ module _ {X : Type 0} where
   across_add b x xs (y ∷ ys) h k =
       let p = and_parts (b y x) (all (λ z. b z x) ys) h in
       let q = and_parts (all (b y) xs) (across b ys xs) k in
-      true_and (all (b y) (x ∷ xs)) (across b ys (x ∷ xs)) (true_and (b y x) (all (b y) xs) p.0 q.0) (across_add b x xs ys p.1 q.1)
+      and_from (all (b y) (x ∷ xs)) (across b ys (x ∷ xs)) (and_from (b y x) (all (b y) xs) p.0 q.0) (across_add b x xs ys p.1 q.1)
 
   across_none : (b : X → X → Bool) (ys : List X) → across b ys [] ≡ true
   across_none b ys = all_all_true ys
@@ -96,3 +95,13 @@ module _ {X : Type 0} where
   across_swap b c f (x ∷ xs) ys h =
       let p = and_parts (all (b x) ys) (across b xs ys) h in
       across_add c x xs ys (all_weaken (b x) (λ y. c y x) ys (λ y k. f x y k) p.0) (across_swap b c f xs ys p.1)
+
+  -- a part of the list, from its place `at` on, gets more behind what was put over the front
+  pub over_more : (xs old new ys part : List X) (at : ℕ) → at ≡ length old → at ≤ length ys → ys ≡ over xs old → part ≡ over (take (length ys - at) (drop at ys)) new →
+      put_mid at (length ys - at) ys part ≡ over xs (old ++ new)
+  over_more xs old new ys part at e le front more =
+      let left : length (drop at ys) ≤ length ys - at = omega (arith, length-drop at ys) in
+      let before : take at ys ≡ old = ap (take at) front ∙ take_at old _ at (sym e) in
+      let behind : drop at ys ≡ drop (length old) xs = ap (drop at) front ∙ drop_at old _ at (sym e) in
+      let rest = drop_all (length ys - at) (drop at ys) left in
+      rw (before, rest, append-nil, more, take_all (length ys - at) (drop at ys) left, behind) (simp (drop-drop, length-append, append_assoc))

@@ -1,6 +1,6 @@
 -- What keeps a state sound.
 use Rattle.std.proofs.Common.{◌≡◌, ℕ, ◌+◌, ◌<◌, ◌≤◌, Bool, true, false, leb, List, ◌∷◌, length, arith, rules, le-leb, leb-true}
-use Rattle.std.proofs.lemmas.Bool.{and_parts}
+use Rattle.std.proofs.lemmas.Bool.{and_parts, and_from}
 use Rattle.records.specs.Commands.{within, in_range}
 use Rattle.records.specs.declared.numbers.CommandNumber.{CommandNumber}
 use Rattle.records.specs.declared.numbers.Member.{Member}
@@ -12,7 +12,7 @@ use Rattle.market.specs.declared.orders.Order.{Order}
 use Rattle.market.specs.Lists.{all, pairwise, across, without, placed}
 use Rattle.market.specs.Orders.{before, differ, kept, less, is_of}
 use Rattle.market.specs.Resting.{Resting, side_sound, sound, arriving, passed, withdrawn}
-use Rattle.market.proofs.ListLaws.{true_and, all_weaken, all_without, pairwise_without, length_without, across_without, all_placed, length_placed, pairwise_placed}
+use Rattle.market.proofs.ListLaws.{all_weaken, all_without, pairwise_without, length_without, across_without, all_placed, length_placed, pairwise_placed}
 
 pub record SideSound (s : Side) (n : ℕ) (xs : List Order) : Type 0 where
   pub few : length xs ≤ 32
@@ -35,8 +35,8 @@ side_fact s n xs e =
 
 side_test : (s : Side) (n : ℕ) (xs : List Order) → SideSound s n xs → side_sound s n xs ≡ true
 side_test s n xs f =
-    true_and (leb (length xs) 32) _ (le-leb (length xs) 32 f.few)
-    (true_and (pairwise (before s) xs) _ f.ranked (true_and (pairwise differ xs) (all (kept n) xs) f.distinct f.ranged))
+    and_from (leb (length xs) 32) _ (le-leb (length xs) 32 f.few)
+    (and_from (pairwise (before s) xs) _ f.ranked (and_from (pairwise differ xs) (all (kept n) xs) f.distinct f.ranged))
 
 pub sound_fact : (h : Resting) → sound h ≡ true → Sound h
 sound_fact h e =
@@ -47,9 +47,9 @@ sound_fact h e =
 
 pub sound_test : (h : Resting) → Sound h → sound h ≡ true
 sound_test h f =
-    true_and (leb h.last 1_000_000_000_000) _ (le-leb h.last 1_000_000_000_000 f.bounded)
-    (true_and (side_sound Buy h.last h.buys) _ (side_test Buy h.last h.buys f.buys)
-    (true_and (side_sound Sell h.last h.sells) (across differ h.buys h.sells) (side_test Sell h.last h.sells f.sells) f.separate))
+    and_from (leb h.last 1_000_000_000_000) _ (le-leb h.last 1_000_000_000_000 f.bounded)
+    (and_from (side_sound Buy h.last h.buys) _ (side_test Buy h.last h.buys f.buys)
+    (and_from (side_sound Sell h.last h.sells) (across differ h.buys h.sells) (side_test Sell h.last h.sells f.sells) f.separate))
 
 -- more numbers are out
 kept_up : (n m : ℕ) → n ≤ m → (o : Order) → kept n o ≡ true → kept m o ≡ true
@@ -57,8 +57,8 @@ kept_up n m l o h =
     let a = and_parts (in_range o.member o.price o.lots) (within 1 n o.number.0) h in
     let b = and_parts (leb 1 o.number.0) (leb o.number.0 n) a.1 in
     let k = leb-true o.number.0 n b.1 in
-    true_and (in_range o.member o.price o.lots) (within 1 m o.number.0) a.0
-    (true_and (leb 1 o.number.0) (leb o.number.0 m) b.0 (le-leb o.number.0 m (omega arith)))
+    and_from (in_range o.member o.price o.lots) (within 1 m o.number.0) a.0
+    (and_from (leb 1 o.number.0) (leb o.number.0 m) b.0 (le-leb o.number.0 m (omega arith)))
 
 pub side_up : {s : Side} {n : ℕ} {xs : List Order} (m : ℕ) → n ≤ m → SideSound s n xs → SideSound s m xs
 side_up {s} {n} {xs} m l f = record { few = f.few; ranked = f.ranked; distinct = f.distinct; ranged = all_weaken (kept n) (kept m) xs (kept_up n m l) f.ranged }
@@ -95,7 +95,7 @@ side_less {s} {n} {r} {rs} m l f =
       few = f.few;
       ranked = rank_less s r m rs f.ranked;
       distinct = f.distinct;
-      ranged = true_and (kept n (less r m)) (all (kept n) rs) (kept_less n m r l a.0) a.1;
+      ranged = and_from (kept n (less r m)) (all (kept n) rs) (kept_less n m r l a.0) a.1;
     }
 
 -- a new order comes
@@ -124,7 +124,7 @@ pub side_placed : {s : Side} {n : ℕ} {xs : List Order} (m : ℕ) (o : Order) �
 side_placed {s} {n} {xs} m o up new k l f = record {
   few = omega (arith, length_placed (before s) o xs);
   ranked = pairwise_placed (before s) (before s) (kept n) o
-      (λ x ys e h u. true_and (before s o x) (all (before s o) ys) e (all_weaken (before s x) (before s o) ys (λ y j. chains s o x y e j) h))
+      (λ x ys e h u. and_from (before s o x) (all (before s o) ys) e (all_weaken (before s x) (before s o) ys (λ y j. chains s o x y e j) h))
       (λ x e u. older s o x e (omega (arith, numbered n x u))) xs f.ranged f.ranked;
   distinct = pairwise_placed (before s) differ (kept n) o
       (λ x ys e h u. all_new n o new (x ∷ ys) u)
@@ -134,7 +134,7 @@ side_placed {s} {n} {xs} m o up new k l f = record {
 
 -- an order that arrives keeps its ranges, under its own number
 pub arriving_kept : (h : Resting) (m : Member) (p : Price) (l : Lots) → in_range m p l ≡ true → kept (h.last + 1) (arriving h m p l) ≡ true
-arriving_kept h m p l g = true_and (in_range m p l) _ g (search rules)
+arriving_kept h m p l g = and_from (in_range m p l) _ g (search rules)
 
 -- the steps that all markets share
 pub passed_sound : (h : Resting) → h.last < 1_000_000_000_000 → Sound h → Sound (passed h)

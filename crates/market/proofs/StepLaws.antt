@@ -2,7 +2,7 @@
 use Rattle.std.proofs.Common.{◌≡◌, ℕ, ◌+◌, ◌<◌, ◌≤◌, Bool, true, false, cond, ◌&&◌, eqb, ltb, List, [], ◌∷◌, ◌++◌, length, take, Some, None, Option, sym, refl, subst, arith, rules, ltb-true, eq-eqb}
 use lib.Seq.{take-append_seam}
 use Rattle.std.specs.Option.{option_to_list, option_map}
-use Rattle.std.proofs.lemmas.Bool.{and_parts}
+use Rattle.std.proofs.lemmas.Bool.{and_parts, and_from}
 use Rattle.records.specs.Commands.{good}
 use Rattle.records.specs.declared.numbers.CommandNumber.{CommandNumber}
 use Rattle.records.specs.declared.numbers.Member.{Member}
@@ -14,7 +14,6 @@ use Rattle.market.specs.Lists.{all}
 use Rattle.market.specs.Orders.{cancelled, dropped, rested}
 use Rattle.market.specs.Resting.{Resting, next, sound, passed, withdrawn, stepped}
 use Rattle.market.specs.Steps.{Taken, uncounted}
-use Rattle.market.proofs.ListLaws.{true_and}
 use Rattle.market.proofs.Sounds.{sound_fact}
 
 -- what holds of every step: at a good command, at one that is not, and at the last number
@@ -53,11 +52,11 @@ bounded h v = (sound_fact h v).bounded
 
 pub all_append : {X : Type 0} (p : X → Bool) (xs ys : List X) → all p xs ≡ true → all p ys ≡ true → all p (xs ++ ys) ≡ true
 all_append p [] ys h k = k
-all_append p (x ∷ xs) ys h k = let a = and_parts (p x) (all p xs) h in true_and (p x) (all p (xs ++ ys)) a.0 (all_append p xs ys a.1 k)
+all_append p (x ∷ xs) ys h k = let a = and_parts (p x) (all p xs) h in and_from (p x) (all p (xs ++ ys)) a.0 (all_append p xs ys a.1 k)
 
 -- a notice that a market writes has the number 0
 pub uncounted_of : (n m : ℕ) → m ≡ n → (eqb 0 0 && eqb m n) ≡ true
-uncounted_of n m e = true_and (eqb 0 0) (eqb m n) refl (eq-eqb m n e)
+uncounted_of n m e = and_from (eqb 0 0) (eqb m n) refl (eq-eqb m n e)
 
 -- an order that comes to rest: at most one notice, of its own command
 pub rested_few : (s : Side) (o : Order) (xs : List Order) → length (option_to_list (rested s o xs).1) ≤ 1
@@ -70,7 +69,7 @@ pub rested_uncounted : (s : Side) (n : ℕ) (o : Order) (xs : List Order) → o.
 rested_uncounted s n o xs e = way (ltb (length xs) 32) refl where
   way : (b : Bool) → ltb (length xs) 32 ≡ b → all (uncounted n) (option_to_list (rested s o xs).1) ≡ true
   way true f = simp f
-  way false f = simp f (true_and (uncounted n (dropped o)) true (uncounted_of n o.number.0 e) refl)
+  way false f = simp f (and_from (uncounted n (dropped o)) true (uncounted_of n o.number.0 e) refl)
 
 -- a cancel's notice: at most one, and it is the cancel's
 few_listed : (c : CommandNumber) (o : Option Order) → length (option_to_list (option_map (cancelled c) o)) ≤ 1
@@ -79,7 +78,7 @@ few_listed c (Some x) = omega arith
 
 uncounted_listed : (n : ℕ) (c : CommandNumber) → c.0 ≡ n → (o : Option Order) → all (uncounted n) (option_to_list (option_map (cancelled c) o)) ≡ true
 uncounted_listed n c e None = refl
-uncounted_listed n c e (Some x) = true_and (uncounted n (cancelled c x)) true (uncounted_of n c.0 e) refl
+uncounted_listed n c e (Some x) = and_from (uncounted n (cancelled c x)) true (uncounted_of n c.0 e) refl
 
 pub withdrawn_few : (h : Resting) (m : Member) (n : CommandNumber) → length (withdrawn h m n).1 ≤ 1
 withdrawn_few h m n = few_listed (next h) _

@@ -57,6 +57,7 @@ pub trait Market: Sized {
         ensures { result.0 ≡ count (means self.now) };
 
     /// Steps, puts the notices over the front of the list and says how many they are.
+    // The list is lent: nothing allocates on the way of a call.
     fn apply(&mut self, command: &Command, list: &mut [Notice]) -> Result<usize, Refusal>
         ensures { Applied (means self.old) (step (means self.old) command.now) list.old (means self.new) list.new result };
 

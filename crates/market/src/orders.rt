@@ -20,6 +20,7 @@ pub struct Order {
 
 impl Order {
     /// Whether an order of a side trades at a price.
+    // What the side chooses is which way to compare: it is in this one place.
     pub fn accepts(&self, side: Side, price: Price) -> bool
         ensures { result ≡ accepts side self.now.price.0 price.0 }
     {

@@ -3,11 +3,13 @@ ghost use Rattle.std.specs.Prelude.{◌≡◌, ℕ, ◌<◌, ◌≤◌, true, []
 ghost use Rattle.std.specs.Borrow.{sem, follows};
 ghost use Rattle.std.specs.Vec.{with_item};
 ghost use Rattle.std.specs.List.{position};
+ghost use Rattle.std.specs.Option.{option_to_list};
 ghost use Rattle.market.specs.contracts.orders.Order.{the_row as order_row};
 ghost use Rattle.market.specs.contracts.tables.OrderTable.{the_row as table_row};
 ghost use Rattle.market.specs.Lists.{pairwise, found, without, placed};
 ghost use Rattle.market.specs.Orders.{before, is_of, rested, reduced, Has, front};
 ghost use Rattle.market.specs.Means.{rows};
+ghost use Rattle.market.specs.Steps.{Taken};
 
 use crate::notes::lots_notice;
 use crate::orders::Order;
@@ -105,7 +107,8 @@ impl OrderTable {
         }
     }
 
-    // Puts an order in its rank place, in memory that is there.
+    // Puts an order in its rank place, in memory that is there. (Side and order go together here and below: a struct of both would
+    // only be taken apart.)
     fn place(&mut self, side: Side, order: Order)
         requires { vec_len self.old.rows < vec_capacity self.old.rows }
         ensures rows { rows self.new ≡ placed (before side) order (rows self.old) }
@@ -126,6 +129,24 @@ impl OrderTable {
             None
         } else {
             Some(lots_notice(Kind::Dropped, order.number, &order))
+        }
+    }
+
+    /// Puts an order in its rank place, or the notice that its lots are dropped at the front of the list, and says
+    /// how many notices that is.
+    // The list is lent: nothing allocates on the way of a call.
+    pub fn settle(&mut self, side: Side, order: Order, list: &mut [Notice]) -> usize
+        requires own_room { 32 ≤ vec_capacity self.old.rows }
+        requires long { 1 ≤ length list.old }
+        ensures rested { Taken ((rested side order (rows self.old)).0, option_to_list (rested side order (rows self.old)).1) list.old (rows self.new) list.new result }
+        ensures capacity { vec_capacity self.new.rows ≡ vec_capacity self.old.rows }
+    {
+        match self.rest(side, order) {
+            None => 0,
+            Some(dropped) => {
+                list[0] = dropped;
+                1
+            }
         }
     }
 

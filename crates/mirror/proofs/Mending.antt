@@ -1,6 +1,6 @@
 -- Sectors made equal in both halves.
 use Rattle.std.proofs.Common.{◌≡◌, ℕ, ◌+◌, ◌<◌, min, true, false, ◌&&◌, ◌⊎◌, List, Ok, Err, sym, refl, ap, ◌∙◌, subst, inl, inr, ⊎_elim, arith}
-use Rattle.std.proofs.lemmas.Bool.{or_left, or_right, or_cases, and_from, and_parts, cases_eq}
+use Rattle.std.proofs.lemmas.Bool.{or_left, or_right, or_cases, and_from, and_parts, cases_eq, and_left, and_right}
 use Rattle.device.specs.Meaning.{Meaning, Reading, bytes, torn, Contents, ◌∈◌, Lawful}
 use Rattle.device.specs.declared.fault.DeviceFault.{DeviceFault}
 use Rattle.device.specs.declared.fault.DeviceFault.TheVariants.{OutOfRange, Cut, Torn}
@@ -8,7 +8,7 @@ use Rattle.device.specs.Shift.{told_below}
 use Rattle.device.specs.Calls.{Answer, DidSync, Moved, WasCut, Written, Synced, Kept, Joined}
 use Rattle.mirror.specs.Halves.{either, both, mirrored, either_in, Level}
 use Rattle.mirror.specs.Mends.{SyncsBoth, MendedOne, CutOne, Tight, Mended, MendsOne, MendsAll}
-use Rattle.mirror.proofs.Moves.{from_same, from_synced, after_moved, pair_kept, half_dark, dark_left, dark_right, either_torn, either_bytes}
+use Rattle.mirror.proofs.Moves.{from_same, from_synced, after_moved, pair_kept, half_dark, either_torn, either_bytes}
 
 never_torn : (xs : List ℕ) → bytes xs ≡ torn → ⊥
 never_torn xs e = let z : ◌≡◌ {A = ℕ} 0 1 = cc in omega arith
@@ -165,8 +165,8 @@ near_kept : (a b m n m' n' : Meaning) (k : ℕ) → Lawful a → Lawful b → Me
 near_kept a b m n m' n' k la lb d p q = pair_near a b m n m' n' (Kept m) (Kept n) la lb d.size_a d.size_b p q d.near_a d.near_b d.never
 
 mend_cut : (a b m n m' n' : Meaning) (k : ℕ) → Lawful a → Lawful b → Lawful m → Lawful n → Mended a b k m n → k < a.size → k < b.size → CutOne m n k m' n' → WasCut (mirrored a b) (Kept (mirrored a b)) (mirrored m' n')
-mend_cut a b m n m' n' k la lb lm ln d ka kb (inl o) = record { dark = dark_left _ _ o.0.dark; moved = near_kept a b m n m' n' k la lb d o.0.moved (from_same n n' ln o.1) }
-mend_cut a b m n m' n' k la lb lm ln d ka kb (inr (inl o)) = record { dark = dark_right _ _ o.1.dark; moved = near_kept a b m n m' n' k la lb d (from_same m m' lm o.0) o.1.moved }
+mend_cut a b m n m' n' k la lb lm ln d ka kb (inl o) = record { dark = and_left _ _ o.0.dark; moved = near_kept a b m n m' n' k la lb d o.0.moved (from_same n n' ln o.1) }
+mend_cut a b m n m' n' k la lb lm ln d ka kb (inr (inl o)) = record { dark = and_right _ _ o.1.dark; moved = near_kept a b m n m' n' k la lb d (from_same m m' lm o.0) o.1.moved }
 mend_cut a b m n m' n' k la lb lm ln d ka kb (inr (inr (inl o))) =
     let w = o.0 in
     let r = d.rest k ka kb (omega arith) in
@@ -179,7 +179,7 @@ mend_cut a b m n m' n' k la lb lm ln d ka kb (inr (inr (inl o))) =
             | inl q ↦ absurd (never_torn w (sym (r.2 torn (subst (λ (z : ℕ). torn ∈ m.may z) q i) ∙ ak)))
             | inr q ↦ d.never s h l i (joined_else n k s w torn q j)
           ]);
-      dark = dark_right _ _ o.3.dark;
+      dark = and_right _ _ o.3.dark;
     }
 mend_cut a b m n m' n' k la lb lm ln d ka kb (inr (inr (inr o))) =
     let w = o.0 in
@@ -195,7 +195,7 @@ mend_cut a b m n m' n' k la lb lm ln d ka kb (inr (inr (inr o))) =
             | inl q ↦ absurd (never_torn w (sym (r.3 torn (subst (λ (z : ℕ). torn ∈ n.may z) q j) ∙ bk)))
             | inr q ↦ d.never s h l (joined_else m k s w torn q i) j
           ]);
-      dark = dark_left _ _ o.4.dark;
+      dark = and_left _ _ o.4.dark;
     }
 
 -- the halves keep their sizes in a cut
@@ -225,8 +225,8 @@ sync_dark a b la lb e = (refl, half_dark a b la lb e)
 
 pub sync_first : (a b m n : Meaning) (f : DeviceFault) → Lawful a → Lawful b → SyncsBoth a b (Err f) m n → DidSync (mirrored a b) (Err f) (mirrored m n)
 sync_first a b m n (OutOfRange s) la lb d = absurd d
-sync_first a b m n (Cut s) la lb (e, inl (c, q)) = (e, record { dark = dark_left _ _ c.dark; moved = pair_kept a b m n c.moved (from_same b n lb q) })
-sync_first a b m n (Cut s) la lb (e, inr (y, c)) = (e, record { dark = dark_right _ _ c.dark; moved = pair_kept a b m n (from_synced a m la y) c.moved })
+sync_first a b m n (Cut s) la lb (e, inl (c, q)) = (e, record { dark = and_left _ _ c.dark; moved = pair_kept a b m n c.moved (from_same b n lb q) })
+sync_first a b m n (Cut s) la lb (e, inr (y, c)) = (e, record { dark = and_right _ _ c.dark; moved = pair_kept a b m n (from_synced a m la y) c.moved })
 sync_first a b m n (Torn s) la lb d = absurd d
 
 first_moved : (a0 b0 a b : Meaning) → Lawful a0 → Lawful b0 → Synced a0 a → Synced b0 b → Moved (mirrored a0 b0) (Kept (mirrored a0 b0)) (mirrored a b)
@@ -278,7 +278,7 @@ pub sync_last : (a0 b0 a b m n m' n' : Meaning) (r : Answer) → Lawful a0 → L
 sync_last a0 b0 a b m n m' n' (Ok u) la0 lb0 la lb lm ln y d w = leveled a0 b0 m' n' la0 lb0 y.0.was_lit y.1.was_lit (level a0 b0 a b m n m' n' y.0 y.1 d w.0 w.1)
 sync_last a0 b0 a b m n m' n' (Err (OutOfRange s)) la0 lb0 la lb lm ln y d w = absurd w
 sync_last a0 b0 a b m n m' n' (Err (Cut s)) la0 lb0 la lb lm ln y d (e, inl (c, q)) =
-    (e, record { dark = dark_left _ _ c.dark; moved = after_moved _ (mirrored a b) _ (first_moved a0 b0 a b la0 lb0 y.0 y.1) (near_kept a b m n m' n' _ la lb d c.moved (from_same n n' ln q)) })
+    (e, record { dark = and_left _ _ c.dark; moved = after_moved _ (mirrored a b) _ (first_moved a0 b0 a b la0 lb0 y.0 y.1) (near_kept a b m n m' n' _ la lb d c.moved (from_same n n' ln q)) })
 sync_last a0 b0 a b m n m' n' (Err (Cut s)) la0 lb0 la lb lm ln y d (e, inr (w, c)) =
-    (e, record { dark = dark_right _ _ c.dark; moved = after_moved _ (mirrored a b) _ (first_moved a0 b0 a b la0 lb0 y.0 y.1) (near_kept a b m n m' n' _ la lb d (from_synced m m' lm w) c.moved) })
+    (e, record { dark = and_right _ _ c.dark; moved = after_moved _ (mirrored a b) _ (first_moved a0 b0 a b la0 lb0 y.0 y.1) (near_kept a b m n m' n' _ la lb d (from_synced m m' lm w) c.moved) })
 sync_last a0 b0 a b m n m' n' (Err (Torn s)) la0 lb0 la lb lm ln y d w = absurd w

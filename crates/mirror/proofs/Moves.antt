@@ -1,11 +1,11 @@
 -- Two halves that each moved within what they may hold, taken together.
-use Rattle.std.proofs.Common.{◌≡◌, ℕ, ◌<◌, min, Bool, true, false, ◌&&◌, ◌⊎◌, List, Ok, Err, sym, refl, ap, ◌∙◌, subst, inl, inr, ⊎_elim, arith}
-use Rattle.std.proofs.lemmas.Bool.{or_left, or_right, or_cases, and_from, and_parts, and_right, cases_eq}
+use Rattle.std.proofs.Common.{◌≡◌, ℕ, ◌<◌, min, true, false, ◌&&◌, ◌⊎◌, List, Ok, Err, sym, refl, ap, ◌∙◌, subst, inl, inr, ⊎_elim, arith}
+use Rattle.std.proofs.lemmas.Bool.{or_left, or_right, or_cases, and_from, and_parts, and_right, cases_eq, and_left}
 use Rattle.device.specs.Meaning.{Meaning, Reading, bytes, torn, Contents, ◌∈◌, Lawful}
 use Rattle.device.specs.declared.fault.DeviceFault.{DeviceFault}
 use Rattle.device.specs.declared.fault.DeviceFault.TheVariants.{OutOfRange, Cut, Torn}
 use Rattle.device.specs.Calls.{Answer, DidRead, DidReadWhole, DidWrite, Filled, FoundTorn, Moved, WasCut, Written, Synced, Woken, Kept, Joined}
-use Rattle.mirror.specs.Halves.{either, both, mirrored, either_in}
+use Rattle.mirror.specs.Halves.{Gate, either, both, mirrored, either_in}
 
 pub still : (m : Meaning) → Lawful m → Moved m (Kept m) m
 still m l = record { size = refl; left = l.among; gains = λ s h x i. i }
@@ -74,12 +74,6 @@ pair_joined a b m n at new p q =
       gains = λ s h. gains_joined (a.may s) (b.may s) (m.may s) (n.may s) (λ (x : Reading). (s ≡ at) × ((x ≡ bytes new) ⊎ (x ≡ torn))) (p.gains s (omega arith)) (q.gains s (omega arith));
     }
 
-pub dark_left : (x y : Bool) → x ≡ false → (x && y) ≡ false
-dark_left x y e = rw e
-
-pub dark_right : (x y : Bool) → y ≡ false → (x && y) ≡ false
-dark_right x y e = and_right x y e
-
 pub either_torn : (x y z : Reading) → x ≡ torn → y ≡ z → either x y ≡ z
 unfolding either
 either_torn x y z e f = rw e f
@@ -96,14 +90,16 @@ half_dark_joined : (a b : Meaning) (at : ℕ) (new : List ℕ) → Lawful a → 
 half_dark_joined a b at new l k e = record { dark = e; moved = joins (mirrored a b) (mirrored a b) at new (pair_kept a b a b (still a l) (still b k)) }
 
 cut_a : (a b m : Meaning) → Lawful b → WasCut a (Kept a) m → WasCut (mirrored a b) (Kept (mirrored a b)) (mirrored m b)
-cut_a a b m k c = record { dark = dark_left _ _ c.dark; moved = pair_kept a b m b c.moved (still b k) }
+cut_a a b m k c = record { dark = and_left _ _ c.dark; moved = pair_kept a b m b c.moved (still b k) }
 
 cut_b : (a b m n : Meaning) → Moved a (Kept a) m → WasCut b (Kept b) n → WasCut (mirrored a b) (Kept (mirrored a b)) (mirrored m n)
-cut_b a b m n p c = record { dark = dark_right _ _ c.dark; moved = pair_kept a b m n p c.moved }
+cut_b a b m n p c = record { dark = and_right _ _ c.dark; moved = pair_kept a b m n p c.moved }
 
--- a read in the dark, the answer of half A, and the answer of half B, where A is torn
-pub read_dark : (a b : Meaning) (at : ℕ) (old : List ℕ) → Lawful a → Lawful b → at < min a.size b.size → (a.lit && b.lit) ≡ false → DidRead (mirrored a b) at old (Err (Cut at)) old (mirrored a b)
-read_dark a b at old l k h e = (refl, h, half_dark a b l k e, refl)
+-- a read that was stopped, the answer of half A, and the answer of half B, where A is torn
+pub read_stopped : (a b : Meaning) (at : ℕ) (old : List ℕ) (f : DeviceFault) → Lawful a → Lawful b → Gate a b at (Err f) → DidRead (mirrored a b) at old (Err f) old (mirrored a b)
+read_stopped a b at old (OutOfRange s) l k h = (h.0, h.1, refl, refl)
+read_stopped a b at old (Cut s) l k h = (h.0, h.1, half_dark a b l k h.2, refl)
+read_stopped a b at old (Torn s) l k h = absurd h
 
 pub read_first : (a b m : Meaning) (at : ℕ) (new : List ℕ) → at < min a.size b.size → b.lit ≡ true → Filled a at new m → Filled (mirrored a b) at new (mirrored m b)
 read_first a b m at new h e d = record { within = h; was_lit = and_from _ _ d.was_lit e; here = either_bytes _ _ new d.here; same = ap (λ (z : Meaning). mirrored z b) d.same }
@@ -121,13 +117,15 @@ read_second a b m n at old (Err (Cut s)) new l h f d = (d.0, h, cut_b a b m n (f
 read_second a b m n at old (Err (Torn s)) new l h f d =
     (d.0, record { within = h; was_lit = and_from _ _ f.was_lit d.1.was_lit; here = either_torn _ _ _ f.here d.1.here; same = ap (λ (z : Meaning). mirrored z n) f.same ∙ ap (mirrored a) d.1.same }, d.2)
 
--- a write in the dark, one that A refused, and one that A took
-pub write_dark : (a b : Meaning) (at : ℕ) (new : List ℕ) → Lawful a → Lawful b → at < min a.size b.size → (a.lit && b.lit) ≡ false → DidWrite (mirrored a b) at new (Err (Cut at)) (mirrored a b)
-write_dark a b at new l k h e = (refl, h, half_dark_joined a b at new l k e)
+-- a write that was stopped, one that A refused, and one that A took
+pub write_stopped : (a b : Meaning) (at : ℕ) (new : List ℕ) (f : DeviceFault) → Lawful a → Lawful b → Gate a b at (Err f) → DidWrite (mirrored a b) at new (Err f) (mirrored a b)
+write_stopped a b at new (OutOfRange s) l k h = (h.0, h.1, refl)
+write_stopped a b at new (Cut s) l k h = (h.0, h.1, half_dark_joined a b at new l k h.2)
+write_stopped a b at new (Torn s) l k h = absurd h
 
 pub write_first : (a b m : Meaning) (at : ℕ) (new : List ℕ) (f : DeviceFault) → Lawful b → at < min a.size b.size → DidWrite a at new (Err f) m → DidWrite (mirrored a b) at new (Err f) (mirrored m b)
 write_first a b m at new (OutOfRange s) k h d = let z = d.1 in absurd (omega arith)
-write_first a b m at new (Cut s) k h d = (d.0, h, record { dark = dark_left _ _ d.2.dark; moved = pair_joined a b m b at new d.2.moved (joins b b at new (still b k)) })
+write_first a b m at new (Cut s) k h d = (d.0, h, record { dark = and_left _ _ d.2.dark; moved = pair_joined a b m b at new d.2.moved (joins b b at new (still b k)) })
 write_first a b m at new (Torn s) k h d = absurd d
 
 pub write_second : (a b m n : Meaning) (at : ℕ) (new : List ℕ) (r : Answer) → Lawful a → Lawful b → at < min a.size b.size → Written a at new m → DidWrite b at new r n → DidWrite (mirrored a b) at new r (mirrored m n)
@@ -143,7 +141,7 @@ write_second a b m n at new (Ok u) l k h w d =
       gains = p.gains;
     }
 write_second a b m n at new (Err (OutOfRange s)) l k h w d = let z = d.1 in absurd (omega arith)
-write_second a b m n at new (Err (Cut s)) l k h w d = (d.0, h, record { dark = dark_right _ _ d.2.dark; moved = pair_joined a b m n at new (from_written a m at new l w) d.2.moved })
+write_second a b m n at new (Err (Cut s)) l k h w d = (d.0, h, record { dark = and_right _ _ d.2.dark; moved = pair_joined a b m n at new (from_written a m at new l w) d.2.moved })
 write_second a b m n at new (Err (Torn s)) l k h w d = absurd d
 
 pub woken_both : (a b m n : Meaning) → Woken a m → Woken b n → Woken (mirrored a b) (mirrored m n)

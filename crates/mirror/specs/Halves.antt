@@ -48,6 +48,13 @@ lenders x y = (x, y)
 abbrev pub Unlit : Meaning → Meaning → Meaning → Meaning → Type 0
 Unlit a b m n = ((a.lit && b.lit) ≡ false) × (m ≡ a) × (n ≡ b)
 
+-- the answer of a gate before a read or a write: it is stopped past the size, and in the dark
+abbrev pub Gate : (a b : Meaning) → ℕ → Answer → Type 0
+Gate a b at (Ok _) = (at < min a.size b.size) × ((a.lit && b.lit) ≡ true)
+Gate a b at (Err (OutOfRange s)) = (s ≡ at) × (min a.size b.size ≤ at)
+Gate a b at (Err (Cut s)) = (s ≡ at) × (at < min a.size b.size) × ((a.lit && b.lit) ≡ false)
+Gate a b at (Err (Torn s)) = ⊥
+
 -- a read asks A, and B only where A is torn
 abbrev pub ReadHalves : (a b : Meaning) → ℕ → Answer → List ℕ → (m n : Meaning) → Type 0
 ReadHalves a b at (Ok _) new m n = ((a.reads at ≡ bytes new) ⊎ ((a.reads at ≡ torn) × (b.reads at ≡ bytes new))) × (m ≡ a) × (n ≡ b)

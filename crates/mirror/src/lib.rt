@@ -9,7 +9,7 @@
 
 ghost use Rattle.std.specs.Prelude.{◌≡◌, ◌<◌};
 ghost use Rattle.device.specs.Calls.{DidRead, DidSync, DidWrite, Woken};
-ghost use Rattle.mirror.specs.Halves.{ReadHalves, SyncedHalves, WroteHalves, lenders, mirrored, mirrored_lawful};
+ghost use Rattle.mirror.specs.Halves.{Gate, ReadHalves, SyncedHalves, WroteHalves, lenders, mirrored, mirrored_lawful};
 ghost use Rattle.mirror.specs.Mends.{MendsAll, MendsOne, SyncsBoth, Tight};
 
 use device::{Device, DeviceFault, Sector, read_whole};
@@ -28,9 +28,22 @@ impl<A, B> Mirror<A, B> {
     }
 }
 
-// The meanings and lenders of both halves are written out in each clause: a model's value cannot name the types of the
-// lenders, which the clauses need beside them.
+// The meanings and lenders of both halves are written out in each clause. (A model was tried: its value cannot name the types
+// of the lenders, which the clauses need beside the meanings.)
 impl<A: Device, B: Device> Mirror<A, B> {
+    // Lets a read or a write through; one past the size or in the dark is stopped.
+    fn pass(&self, sector: usize) -> Result<(), DeviceFault>
+        ensures { Gate (A.Device.meaning self.now.a) (B.Device.meaning self.now.b) sector result }
+    {
+        if sector >= self.size() {
+            return Err(DeviceFault::OutOfRange(sector));
+        }
+        if !self.lit() {
+            return Err(DeviceFault::Cut(sector));
+        }
+        Ok(())
+    }
+
     // Makes a sector of both halves what the two together read.
     fn mend(&mut self, sector: usize) -> Result<(), DeviceFault>
         requires inside_a { sector < (A.Device.meaning self.old.a).size }
@@ -93,12 +106,7 @@ impl<A: Device, B: Device> Device for Mirror<A, B> {
         ensures own { ReadHalves (A.Device.meaning self.old.a) (B.Device.meaning self.old.b) sector result buffer.new (A.Device.meaning self.new.a) (B.Device.meaning self.new.b) }
         ensures kept { lenders (A.Device.lender self.new.a) (B.Device.lender self.new.b) ≡ lenders (A.Device.lender self.old.a) (B.Device.lender self.old.b) }
     {
-        if sector >= self.size() {
-            return Err(DeviceFault::OutOfRange(sector));
-        }
-        if !self.lit() {
-            return Err(DeviceFault::Cut(sector));
-        }
+        self.pass(sector)?;
         match read_whole(&mut self.a, sector)? {
             Some(bytes) => {
                 *buffer = bytes;
@@ -114,12 +122,7 @@ impl<A: Device, B: Device> Device for Mirror<A, B> {
         ensures own { WroteHalves (A.Device.meaning self.old.a) (B.Device.meaning self.old.b) sector bytes.now result (A.Device.meaning self.new.a) (B.Device.meaning self.new.b) }
         ensures kept { lenders (A.Device.lender self.new.a) (B.Device.lender self.new.b) ≡ lenders (A.Device.lender self.old.a) (B.Device.lender self.old.b) }
     {
-        if sector >= self.size() {
-            return Err(DeviceFault::OutOfRange(sector));
-        }
-        if !self.lit() {
-            return Err(DeviceFault::Cut(sector));
-        }
+        self.pass(sector)?;
         self.a.write(sector, bytes)?;
         self.b.write(sector, bytes)
     }

@@ -61,7 +61,7 @@ impl Outcome {
 }
 
 /// How many cuts, mixtures and torn sectors were seen.
-#[derive(Clone, Copy, PartialEq, Eq, Debug)]
+#[derive(Clone, Copy, Default, PartialEq, Eq, Debug)]
 pub struct Tally {
     pub cuts: u32,
     pub mixtures: u32,
@@ -72,11 +72,7 @@ impl Tally {
     pub fn new() -> Tally
         ensures { result ≡ record { cuts = 0; mixtures = 0; torn = 0 } }
     {
-        Tally {
-            cuts: 0,
-            mixtures: 0,
-            torn: 0,
-        }
+        Tally::default()
     }
 
     pub fn note(&mut self, outcome: Outcome)

@@ -56,31 +56,27 @@ fn fuse_of(text: &str) -> Result<Fuse, PileFault>
     })
 }
 
-// No FromStr: it would have to stand beside DriveKind, in the crate of the piles, which knows no words.
+// No FromStr: `offset` and `mirror`, which are no kinds of drive, get a refusal of their own, and a type around DriveKind would be
+// made only to be taken apart.
 fn kind_of(word: &str) -> Result<DriveKind, PileFault>
     ensures { IfOk result (λ k. word.now ≡ kind_word k) }
 {
     match word {
         "direct" => Ok(DriveKind::Direct),
         "writeback" => Ok(DriveKind::WriteBack),
-        "offset" => Err(PileFault::TooDeep),
-        "mirror" => Err(PileFault::TooDeep),
+        "offset" | "mirror" => Err(PileFault::TooDeep),
         _ => Err(PileFault::NoDevice),
     }
 }
 
 // One or more fuses, with commas between them.
-// A loop over `split_once`, as the spelling says it: the definition is of the first comma and what follows.
 fn fuses_of(heap: Global, text: &str) -> Result<Vec<Fuse>, PileFault>
     ensures { IfOk result (λ fs. SpellsFuses text.now fs.items) }
 {
     let mut fuses = Vec::new(heap);
-    let mut left = text;
-    while let Some((first, later)) = left.split_once(',') {
-        fuses.push(fuse_of(first)?)?;
-        left = later;
+    for part in text.split(',') {
+        fuses.push(fuse_of(part)?)?;
     }
-    fuses.push(fuse_of(left)?)?;
     Ok(fuses)
 }
 

@@ -18,6 +18,7 @@ pub type Whole<'a> = Either<Part<'a>, Mirror<Part<'a>, Part<'a>>>;
 /// The sectors of a whole from a base on.
 pub type Pile<'a> = Offset<Whole<'a>>;
 
+// A type is chosen once here, from the kind in the shape: what follows is generic.
 fn build_drive<'a>(
     heap: Global,
     shape: &'a DriveShape,

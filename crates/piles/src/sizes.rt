@@ -4,13 +4,14 @@ ghost use Rattle.piles.specs.Shapes.{drive_bytes, first_bytes_of, second_bytes_o
 
 use crate::{DriveKind, DriveShape, PileShape, WholeShape};
 use image::Fuse;
+use image::sectors::{MARKED_SECTOR, MOST_SECTORS};
 
 impl DriveShape {
     /// None where a drive cannot have so many sectors.
     pub fn new(kind: DriveKind, sectors: usize, fuses: Vec<Fuse>) -> Option<DriveShape>
         ensures { MatchOption result (65536 < sectors) (λ d. (d.kind ≡ kind) × (d.sectors ≡ sectors) × (d.fuses ≡ fuses)) }
     {
-        if sectors > 65536 {
+        if sectors > MOST_SECTORS {
             return None;
         }
         Some(DriveShape {
@@ -24,7 +25,7 @@ impl DriveShape {
     pub fn bytes(&self) -> usize
         ensures { result ≡ drive_bytes self.now }
     {
-        self.sectors * 513
+        self.sectors * MARKED_SECTOR
     }
 }
 

@@ -1,5 +1,5 @@
 -- What each line makes of the script that was read so far. Assumes nothing.
-use Rattle.std.specs.Prelude.{◌≡◌, ℕ, true, false, ◌⊎◌, List, [], ◌∷◌, ◌++◌, Some, None, vec_items, codes}
+use Rattle.std.specs.Prelude.{◌≡◌, ℕ, ◌⊎◌, List, [], ◌∷◌, ◌++◌, Some, None, vec_items, codes}
 use Rattle.pile_words.specs.Spellings.{SpellsPile}
 use Rattle.piles.specs.declared.shape.PileShape.{PileShape}
 use Rattle.records.specs.declared.numbers.HouseNumber.{HouseNumber}
@@ -9,29 +9,31 @@ use Rattle.play_words.specs.Markets.{market_word}
 use Rattle.play_words.specs.Spellings.{SpellsCall}
 use Rattle.play_words.specs.declared.script.MarketKind.{MarketKind}
 use Rattle.play_words.specs.declared.script.Reader.{Reader}
+use Rattle.play_words.specs.declared.script.Reader.TheVariants as reader
 
 -- the house, the market or the device is said, which was not before
 abbrev pub SaysHouse : List ℕ → Reader → Reader → Type 0
-SaysHouse w x y =
-    (h : HouseNumber) × Writes w h.0 × (x.house ≡ None) × (y.house ≡ Some h) × (y.market ≡ x.market) × (y.pile ≡ x.pile) × (y.set ≡ x.set) × (y.calls ≡ x.calls)
+SaysHouse w (reader.Setup x m p) y = (h : HouseNumber) × Writes w h.0 × (x ≡ None) × (y ≡ reader.Setup (Some h) m p)
+SaysHouse w (reader.Calls s) y = ⊥
 
 abbrev pub SaysMarket : List ℕ → Reader → Reader → Type 0
-SaysMarket w x y =
-    (m : MarketKind) × (w ≡ market_word m) × (x.market ≡ None) × (y.market ≡ Some m) × (y.house ≡ x.house) × (y.pile ≡ x.pile) × (y.set ≡ x.set) × (y.calls ≡ x.calls)
+SaysMarket w (reader.Setup h x p) y = (m : MarketKind) × (w ≡ market_word m) × (x ≡ None) × (y ≡ reader.Setup h (Some m) p)
+SaysMarket w (reader.Calls s) y = ⊥
 
 abbrev pub SaysPile : List (List ℕ) → Reader → Reader → Type 0
-SaysPile ws x y =
-    (p : PileShape) × SpellsPile ws p [] × (x.pile ≡ None) × (y.pile ≡ Some p) × (y.house ≡ x.house) × (y.market ≡ x.market) × (y.set ≡ x.set) × (y.calls ≡ x.calls)
+SaysPile ws (reader.Setup h m x) y = (p : PileShape) × SpellsPile ws p [] × (x ≡ None) × (y ≡ reader.Setup h m (Some p))
+SaysPile ws (reader.Calls s) y = ⊥
 
--- set up is said, once
+-- set up is said, once, where all three are: they begin the script, and no call does
 abbrev pub SaysSetup : Reader → Reader → Type 0
-SaysSetup x y =
-    (x.set ≡ false) × (y.set ≡ true) × (y.house ≡ x.house) × (y.market ≡ x.market) × (y.pile ≡ x.pile) × (y.calls ≡ x.calls)
+SaysSetup x (reader.Calls s) = (x ≡ reader.Setup (Some s.house) (Some s.market) (Some s.pile)) × (vec_items s.calls ≡ [])
+SaysSetup x (reader.Setup h m p) = ⊥
 
 -- one call more, below the set up
 abbrev pub Calls : List (List ℕ) → Reader → Reader → Type 0
-Calls ws x y =
-    (c : Call) × SpellsCall ws c × (x.set ≡ true) × (vec_items y.calls ≡ vec_items x.calls ++ (c ∷ [])) × (y.house ≡ x.house) × (y.market ≡ x.market) × (y.pile ≡ x.pile) × (y.set ≡ x.set)
+Calls ws (reader.Calls s) (reader.Calls t) =
+    (c : Call) × SpellsCall ws c × (vec_items t.calls ≡ vec_items s.calls ++ (c ∷ [])) × (t.house ≡ s.house) × (t.market ≡ s.market) × (t.pile ≡ s.pile)
+Calls ws x y = ⊥
 
 -- what a line that was taken made of the script
 abbrev pub Took : List (List ℕ) → Reader → Reader → Type 0

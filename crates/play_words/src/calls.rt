@@ -1,6 +1,6 @@
 //! Calls from words.
-ghost use Rattle.std.specs.Prelude.{◌<◌, map, IfOk};
-ghost use Rattle.play_words.specs.Spellings.{Stages, Lends, SpellsCall, SpellsDigit, SpellsByte, SpellsBytes};
+ghost use Rattle.std.specs.Prelude.{map, IfOk};
+ghost use Rattle.play_words.specs.Spellings.{Stages, Lends, SpellsCall, SpellsBytes};
 
 use crate::faults::PlayFault;
 use runner::script::Call;
@@ -10,41 +10,12 @@ use words::{command_of, number};
 /// How many notices the list that is lent has room for, where a script does not say.
 pub const ROOM: usize = 1024;
 
-fn digit_of(byte: u8) -> Result<u8, PlayFault>
-    ensures spells { IfOk result (λ n. SpellsDigit byte n) }
-    ensures below { IfOk result (λ n. n < 16) }
-{
-    match byte {
-        b'0'..=b'9' => Ok(byte - b'0'),
-        b'a'..=b'f' => Ok(byte - b'a' + 10),
-        b'A'..=b'F' => Ok(byte - b'A' + 10),
-        _ => Err(PlayFault::Hex),
-    }
-}
-
-fn byte_of(high: u8, low: u8) -> Result<u8, PlayFault>
-    ensures { IfOk result (λ b. SpellsByte high low b) }
-{
-    let high = digit_of(high)?;
-    let low = digit_of(low)?;
-    Ok(16 * high + low)
-}
-
 // The bytes that the hex digits are, two a byte.
+#[tactic(auto, using(crate::proofs::Spelled::spelled))]
 fn bytes_of(heap: Global, text: &str) -> Result<Vec<u8>, PlayFault>
     ensures { IfOk result (λ v. SpellsBytes text.now v.items) }
 {
-    let mut bytes = Vec::new(heap);
-    let mut left = text.as_bytes();
-    while let [high, low, later @ ..] = left {
-        bytes.push(byte_of(*high, *low)?)?;
-        left = later;
-    }
-    if left.is_empty() {
-        Ok(bytes)
-    } else {
-        Err(PlayFault::Hex)
-    }
+    Ok(hex::decode(heap, text)?)
 }
 
 // The bytes to stage: those of a command's record, or any.

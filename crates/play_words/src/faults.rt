@@ -2,6 +2,7 @@
 ghost use Rattle.std.specs.Prelude.{◌≡◌};
 ghost use Rattle.play_words.specs.declared.faults.PlayFault.TheVariants.{Number};
 
+use hex::FromHexError;
 use pile_words::PileFault;
 use std::alloc::{AllocError, AllocFailed};
 use std::fmt;
@@ -82,6 +83,15 @@ impl From<NoNumber> for PlayFault {
 
     fn from(fault: NoNumber) -> PlayFault {
         PlayFault::Number(fault.0)
+    }
+}
+
+impl From<FromHexError> for PlayFault {
+    fn from(fault: FromHexError) -> PlayFault {
+        match fault {
+            FromHexError::OutOfMemory => PlayFault::NoMemory,
+            _ => PlayFault::Hex,
+        }
     }
 }
 

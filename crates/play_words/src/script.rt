@@ -1,7 +1,8 @@
 //! A whole script.
-ghost use Rattle.std.specs.Prelude.{◌≡◌, true, false, [], map, IfOk, Some, None, OnOk};
+ghost use Rattle.std.specs.Prelude.{◌≡◌, map, IfOk, None, OnOk};
 ghost use Rattle.play_words.specs.Markets.{market_word, AsksMarket};
-ghost use Rattle.play_words.specs.Scripts.{SaysHouse, SaysMarket, SaysPile, SaysSetup, Took};
+ghost use Rattle.play_words.specs.Scripts.{SaysHouse, SaysMarket, SaysPile, SaysSetup, Calls, Took};
+ghost use Rattle.play_words.specs.declared.script.Reader.TheVariants as reader;
 
 use crate::calls::call_of;
 use crate::faults::PlayFault;
@@ -57,13 +58,15 @@ pub struct Script {
 
 /// What was read of a script so far.
 #[derive(Drop)]
-pub struct Reader {
-    house: Option<HouseNumber>,
-    market: Option<MarketKind>,
-    pile: Option<PileShape>,
-    // Whether `setup` has come: a flag, since no value comes with it.
-    set: bool,
-    calls: Vec<Call>,
+pub enum Reader {
+    /// What is set up is being said.
+    Setup {
+        house: Option<HouseNumber>,
+        market: Option<MarketKind>,
+        pile: Option<PileShape>,
+    },
+    /// `setup` has come, and calls follow.
+    Calls(Script),
 }
 
 // That what is named was not said before.
@@ -78,53 +81,80 @@ fn unsaid<T>(slot: &Option<T>, what: &'static str) -> Result<(), PlayFault>
 
 impl Reader {
     /// Nothing is read yet.
-    pub fn new(heap: Global) -> Reader
-        ensures { (result.house ≡ None) × (result.market ≡ None) × (result.pile ≡ None) × (result.set ≡ false) × (result.calls.items ≡ []) }
+    pub fn new() -> Reader
+        ensures { result ≡ reader.Setup None None None }
     {
-        Reader {
+        Reader::Setup {
             house: None,
             market: None,
             pile: None,
-            set: false,
-            calls: Vec::new(heap),
         }
     }
 
     fn take_house(&mut self, word: &str) -> Result<(), PlayFault>
         ensures { OnOk result (SaysHouse word.now self.old self.new) }
     {
-        unsaid(&self.house, "house")?;
-        self.house = Some(HouseNumber(number(word, "house")?));
+        let Reader::Setup { house, .. } = self else {
+            return Err(PlayFault::Twice("house"));
+        };
+        unsaid(house, "house")?;
+        *house = Some(HouseNumber(number(word, "house")?));
         Ok(())
     }
 
     fn take_market(&mut self, word: &str) -> Result<(), PlayFault>
         ensures { OnOk result (SaysMarket word.now self.old self.new) }
     {
-        unsaid(&self.market, "market")?;
-        self.market = Some(word.parse()?);
+        let Reader::Setup { market, .. } = self else {
+            return Err(PlayFault::Twice("market"));
+        };
+        unsaid(market, "market")?;
+        *market = Some(word.parse()?);
         Ok(())
     }
 
     fn take_pile(&mut self, heap: Global, words: &[&str]) -> Result<(), PlayFault>
         ensures { OnOk result (SaysPile (map (λ x. x.now) words.now) self.old self.new) }
     {
-        unsaid(&self.pile, "device")?;
-        self.pile = Some(pile_of(heap, words)?);
+        let Reader::Setup { pile, .. } = self else {
+            return Err(PlayFault::Twice("device"));
+        };
+        unsaid(pile, "device")?;
+        *pile = Some(pile_of(heap, words)?);
         Ok(())
     }
 
-    fn take_setup(&mut self) -> Result<(), PlayFault>
+    fn take_setup(&mut self, heap: Global) -> Result<(), PlayFault>
         ensures { OnOk result (SaysSetup self.old self.new) }
     {
-        self.house.as_ref().ok_or(PlayFault::Missing("house"))?;
-        self.market.as_ref().ok_or(PlayFault::Missing("market"))?;
-        self.pile.as_ref().ok_or(PlayFault::Missing("device"))?;
-        if self.set {
+        let Reader::Setup {
+            house,
+            market,
+            pile,
+        } = self
+        else {
             return Err(PlayFault::Twice("setup"));
-        }
-        self.set = true;
+        };
+        let house = house.ok_or(PlayFault::Missing("house"))?;
+        let market = market.ok_or(PlayFault::Missing("market"))?;
+        let pile = pile.take().ok_or(PlayFault::Missing("device"))?;
+        *self = Reader::Calls(Script {
+            house,
+            market,
+            pile,
+            calls: Vec::new(heap),
+        });
         Ok(())
+    }
+
+    fn take_call(&mut self, heap: Global, words: &[&str]) -> Result<(), PlayFault>
+        ensures { OnOk result (Calls (map (λ x. x.now) words.now) self.old self.new) }
+    {
+        let call = call_of(heap, words)?;
+        let Reader::Calls(Script { calls, .. }) = self else {
+            return Err(PlayFault::Early);
+        };
+        Ok(calls.push(call)?)
     }
 
     /// Takes the words of the next line, of which there is one at least.
@@ -137,40 +167,19 @@ impl Reader {
             ["market", word] => self.take_market(word),
             ["market", ..] => Err(PlayFault::Form("market book|call")),
             ["device", words @ ..] => self.take_pile(heap, words),
-            ["setup"] => self.take_setup(),
+            ["setup"] => self.take_setup(heap),
             ["setup", ..] => Err(PlayFault::Form("setup")),
-            _ => {
-                let call = call_of(heap, words)?;
-                if !self.set {
-                    return Err(PlayFault::Early);
-                }
-                Ok(self.calls.push(call)?)
-            }
+            _ => self.take_call(heap, words),
         }
     }
 
     /// The script, at its end.
     pub fn finish(self) -> Result<Script, PlayFault>
-        ensures { IfOk result (λ s. (self.house ≡ Some s.house) × (self.market ≡ Some s.market) × (self.pile ≡ Some s.pile) × (self.set ≡ true) × (self.calls ≡ s.calls)) }
+        ensures { IfOk result (λ s. self ≡ reader.Calls s) }
     {
-        let Reader {
-            house,
-            market,
-            pile,
-            set,
-            calls,
-        } = self;
-        if !set {
-            return Err(PlayFault::NoSetup);
-        }
-        match (house, market, pile) {
-            (Some(house), Some(market), Some(pile)) => Ok(Script {
-                house,
-                market,
-                pile,
-                calls,
-            }),
-            _ => Err(PlayFault::NoSetup),
+        match self {
+            Reader::Calls(script) => Ok(script),
+            Reader::Setup { .. } => Err(PlayFault::NoSetup),
         }
     }
 }

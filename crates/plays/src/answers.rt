@@ -10,7 +10,7 @@ use std::io;
 use texts::lines::NoticeLine;
 
 /// How many tickets and receipts were answered so far.
-#[derive(Clone, Copy)]
+#[derive(Clone, Copy, Default)]
 pub(crate) struct Tokens {
     pub(crate) tickets: u64,
     pub(crate) receipts: u64,
@@ -115,20 +115,21 @@ pub(crate) fn print_answer(rt: &HostRuntime, tokens: &mut Tokens, entry: &Entry)
             println!(rt; " -> {number}")?;
         }
         Entry::Write(Ok(ticket)) => print_ticket(rt, tokens, *ticket)?,
-        Entry::Sync(_, _, Ok(handed)) => print_handed(rt, tokens, handed)?,
-        Entry::Replay(_, Ok(Some(handed))) => print_handed(rt, tokens, handed)?,
+        Entry::Sync(_, _, Ok(handed)) | Entry::Replay(_, Ok(Some(handed))) => {
+            print_handed(rt, tokens, handed)?
+        }
         Entry::Replay(_, Ok(None)) => println!(rt; " -> none")?,
         Entry::Open(Ok(page)) => {
             let page = page.0;
             println!(rt; " -> page {page}")?;
         }
-        Entry::Stage(_, Err(fault)) => print_refused(rt, fault)?,
-        Entry::Write(Err(fault)) => print_refused(rt, fault)?,
-        Entry::Sync(_, _, Err(fault)) => print_refused(rt, fault)?,
-        Entry::Deliver(_, Err(fault)) => print_refused(rt, fault)?,
-        Entry::Snapshot(Err(fault)) => print_refused(rt, fault)?,
-        Entry::Open(Err(fault)) => print_refused(rt, fault)?,
-        Entry::Replay(_, Err(fault)) => print_refused(rt, fault)?,
+        Entry::Stage(_, Err(fault))
+        | Entry::Write(Err(fault))
+        | Entry::Sync(_, _, Err(fault))
+        | Entry::Deliver(_, Err(fault))
+        | Entry::Snapshot(Err(fault))
+        | Entry::Open(Err(fault))
+        | Entry::Replay(_, Err(fault)) => print_refused(rt, fault)?,
         Entry::Spent => println!(rt; " -> spent already")?,
         _ => println!(rt; " -> done")?,
     }

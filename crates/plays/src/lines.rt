@@ -13,6 +13,7 @@ use texts::lines::SideWord;
 #[derive(Clone, Copy)]
 pub struct CommandWords(pub Command);
 
+// Printing is a match.
 impl fmt::Display for CommandWords {
     ghost output = { λ c. Some (command_words c.0) };
 
@@ -88,6 +89,7 @@ impl fmt::Display for ReceiptWords {
 #[derive(Clone, Copy)]
 pub struct PhaseWord(pub Phase);
 
+// Printing is a match.
 impl fmt::Display for PhaseWord {
     ghost output = { λ p. Some (phase_word p.0) };
 

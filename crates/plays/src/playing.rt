@@ -21,10 +21,7 @@ use std::io;
 
 // Each call with its answer: the script's, then those that spend what was left.
 fn print_run(rt: &HostRuntime, script: &[Call], run: &Run) -> io::Result<()> {
-    let mut tokens = Tokens {
-        tickets: 0,
-        receipts: 0,
-    };
+    let mut tokens = Tokens::default();
     println!(rt; "setup -> done")?;
     for (call, entry) in script.iter().zip(run.log.iter()) {
         print_call(rt, call)?;

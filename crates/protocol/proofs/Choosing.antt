@@ -1,5 +1,6 @@
 -- What is known of the header that is first in rank: its slot shows it, and the other slot shows none of a higher page.
 use Rattle.std.proofs.Common.{◌≡◌, ℕ, ◌≤◌, Bool, true, false, cond, Some, None, Option, sym, refl, ap, ◌∙◌, subst, arith}
+use Rattle.std.proofs.lemmas.Option.{same_Some}
 use Rattle.std.proofs.lemmas.Bool.Decides.{nat_tests}
 use Rattle.records.specs.declared.headers.Header.{Header}
 use Rattle.records.proofs.SectorLaws.{none_some}
@@ -12,7 +13,6 @@ use Rattle.journal.specs.declared.slots.Slot.TheVariants.{Zero, One}
 use Rattle.journal.specs.declared.choosing.SlotHeader.{SlotHeader}
 use Rattle.protocol.specs.Worlds.{World}
 use Rattle.protocol.specs.Steps.{header_of, first_header}
-use Rattle.protocol.proofs.Lists.{some_inj}
 
 record ChosenFrom (a b : Option Header) (s : SlotHeader) : Type 0 where
   pub there : of_slot a b s.slot ≡ Some s.header
@@ -25,13 +25,13 @@ lower : (a b i j : ℕ) → high_first (a, i) (b, j) ≡ false → a ≤ b
 lower a b i j h = grind (arith, nat_tests)
 
 same_page : (x g : Header) → ◌≡◌ {A = Option Header} (Some x) (Some g) → x.page.0 ≡ g.page.0
-same_page x g e = ap (λ (h : Header). h.page.0) (some_inj x g e)
+same_page x g e = ap (λ (h : Header). h.page.0) (same_Some x g e)
 
 chosen_from : (a b : Option Header) (s : SlotHeader) → first_of a b ≡ Some s → ChosenFrom a b s
 chosen_from None None s e = none_some s e
-chosen_from (Some x) None s e = subst (ChosenFrom (Some x) None) (some_inj _ _ e) (record { there = refl; first = λ g k. none_some g k })
-chosen_from None (Some y) s e = subst (ChosenFrom None (Some y)) (some_inj _ _ e) (record { there = refl; first = λ g k. none_some g k })
-chosen_from (Some x) (Some y) s e = subst (ChosenFrom (Some x) (Some y)) (some_inj _ _ e) (by_test (high_first (header_key (in_slot One y)) (header_key (in_slot Zero x))) refl)
+chosen_from (Some x) None s e = subst (ChosenFrom (Some x) None) (same_Some _ _ e) (record { there = refl; first = λ g k. none_some g k })
+chosen_from None (Some y) s e = subst (ChosenFrom None (Some y)) (same_Some _ _ e) (record { there = refl; first = λ g k. none_some g k })
+chosen_from (Some x) (Some y) s e = subst (ChosenFrom (Some x) (Some y)) (same_Some _ _ e) (by_test (high_first (header_key (in_slot One y)) (header_key (in_slot Zero x))) refl)
   where
     by_test : (t : Bool) → high_first (header_key (in_slot One y)) (header_key (in_slot Zero x)) ≡ t → ChosenFrom (Some x) (Some y) (cond t (in_slot One y) (in_slot Zero x))
     by_test true h = record { there = refl; first = λ g k. let p = same_page x g k in let q = higher y.page.0 x.page.0 1 0 h in omega arith }

@@ -1,5 +1,6 @@
 -- Rows of pages: what a market gives over two rows joined, numbers of counted notices, where a page at the end of a record lies.
-use Rattle.std.proofs.Common.{◌≡◌, ℕ, ◌+◌, ◌*◌, ◌≤◌, true, cond, ◌&&◌, eqb, leb, ◌⊎◌, List, [], ◌∷◌, ◌++◌, length, Some, None, Option, sym, refl, ap, ◌∙◌, subst, inl, inr, ⊎_elim, append_assoc, append-nil, arith, length-append}
+use Rattle.std.proofs.Common.{◌≡◌, ℕ, ◌+◌, ◌*◌, ◌≤◌, true, cond, ◌&&◌, eqb, leb, ◌⊎◌, List, [], ◌∷◌, ◌++◌, length, Some, None, sym, refl, ap, ◌∙◌, subst, inl, inr, ⊎_elim, append_assoc, append-nil, arith, length-append}
+use Rattle.std.proofs.lemmas.Option.{same_Some}
 use mathlib.Core.List.{Memᴰ, nil≢cons, head-eq_of_cons-eq, tail-eq_of_cons-eq}
 use Rattle.std.proofs.lemmas.Bool.{and_from, and_parts}
 use Rattle.records.specs.Commands.{good, decoded, if_good, by_kind, enter_in_bytes, cancel_in}
@@ -15,19 +16,16 @@ use Rattle.protocol.specs.Worlds.{N, World, after, given}
 use Rattle.protocol.specs.Promises.{Pages, flat}
 use Rattle.protocol.proofs.Codecs.{Laws}
 
-pub some_inj : {A : Type 0} (a b : A) → ◌≡◌ {A = Option A} (Some a) (Some b) → a ≡ b
-some_inj a b e = cc
-
 -- bytes that are taken for a command are a good one's
 pub decoded_good : (bs : List ℕ) (c : Command) → decoded bs ≡ Some c → good c ≡ true
 unfolding decoded
 decoded_good bs c h = ⊎_elim (λ a. by_kind_good a.1) (λ a. none_some c a.1) (which _ _ _ _ h)
   where
     if_good_good : (d : Command) → if_good d ≡ Some c → good c ≡ true
-    if_good_good d e = ⊎_elim (λ a. subst (λ z. good z ≡ true) (some_inj d c a.1) a.0) (λ a. none_some c a.1) (which (good d) _ _ _ e)
+    if_good_good d e = ⊎_elim (λ a. subst (λ z. good z ≡ true) (same_Some d c a.1) a.0) (λ a. none_some c a.1) (which (good d) _ _ _ e)
 
     cross : cond (eqb (length bs) 4 && eqb (field 2 2 bs) 13) (Some Cross) None ≡ Some c → good c ≡ true
-    cross e = ⊎_elim (λ d. subst (λ z. good z ≡ true) (some_inj Cross c d.1) refl) (λ d. none_some c d.1) (which (eqb (length bs) 4 && eqb (field 2 2 bs) 13) (Some Cross) None (Some c) e)
+    cross e = ⊎_elim (λ d. subst (λ z. good z ≡ true) (same_Some Cross c d.1) refl) (λ d. none_some c d.1) (which (eqb (length bs) 4 && eqb (field 2 2 bs) 13) (Some Cross) None (Some c) e)
 
     cancel : cond (eqb (length bs) 16 && eqb (field 2 2 bs) 12) (if_good (cancel_in bs)) (cond (eqb (length bs) 4 && eqb (field 2 2 bs) 13) (Some Cross) None) ≡ Some c → good c ≡ true
     cancel e = ⊎_elim (λ b. if_good_good (cancel_in bs) b.1) (λ b. cross b.1) (which (eqb (length bs) 16 && eqb (field 2 2 bs) 12) (if_good (cancel_in bs)) _ (Some c) e)

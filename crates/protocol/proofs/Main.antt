@@ -1,5 +1,6 @@
 -- Every run keeps the promises.
 use Rattle.std.proofs.Common.{◌≡◌, ℕ, ◌<◌, ◌≤◌, Bool, true, false, cond, ◌&&◌, eqb, ltb, ◌≢◌, ◌⊎◌, List, [], ◌∷◌, ◌++◌, length, Some, None, Ok, Err, Option, sym, refl, ap, ◌∙◌, subst, inl, inr, append_assoc, append-nil, arith, eq-eqb, ne_eqb}
+use Rattle.std.proofs.lemmas.Option.{same_Some}
 use mathlib.Core.List.{Memᴰ}
 use native.Mathlib.Decide.{dec_le}
 use Rattle.records.specs.declared.notices.Notice.{Notice}
@@ -17,7 +18,6 @@ use Rattle.protocol.specs.Promises.{History, Pages, Sent, Ledger, added, sends, 
 use Rattle.protocol.specs.Witness.{MarketLaws}
 use Rattle.protocol.proofs.Devices.{one_cut, ran_size, only_cut}
 use Rattle.protocol.proofs.Codecs.{Laws, laws_of}
-use Rattle.protocol.proofs.Lists.{some_inj}
 use Rattle.protocol.proofs.Reasons.{writes, may_deliver, snapshots, may_open, may_replay, Ordinary, ordinary}
 use Rattle.protocol.proofs.Safe.{cut_whole}
 use Rattle.protocol.proofs.Watches.{Opening, Watch, more, watch_sends, watch_broken, watch_note, watch, same_kept, same_highest}
@@ -240,7 +240,7 @@ module _ {S : Type 0} (w : World S) (laws : Laws w) where
       let i = (walk_inv g x r).0 in
       let all = caught_up_handed w laws room i (at_phase w laws Replaying (may_replay w laws x room s.allowed) i) s in
       let o = (since_open since before p x r c).1 in
-      let is : all.opening ≡ record { above = (watch before).highest; handed = handed_out since } = some_inj _ _ (sym all.is ∙ o) in
+      let is : all.opening ≡ record { above = (watch before).highest; handed = handed_out since } = same_Some _ _ (sym all.is ∙ o) in
       let low : all.opening.above < n.number.0 = (let e1 = ap (λ (z : Opening). z.above) is in let e2 = same_highest before in omega arith) in
       subst (λ (z : Opening). Memᴰ n z.handed) is (all.each n (subst (λ z. Memᴰ n (record_notices w z)) (sym (same_kept g)) m) low)
 

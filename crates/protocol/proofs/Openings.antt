@@ -1,5 +1,6 @@
 -- Open and replay keep the invariant, never fail, and hand out what they owe.
 use Rattle.std.proofs.Common.{◌≡◌, ℕ, suc, ◌<◌, ◌≤◌, true, ◌⊎◌, List, [], ◌∷◌, ◌++◌, length, Some, None, Ok, Err, Option, Result, sym, refl, ap, ◌∙◌, subst, inl, inr, true≢false, append_assoc, append-nil, arith, length-append, eq-eqb}
+use Rattle.std.proofs.lemmas.Option.{same_Some}
 use mathlib.Core.List.Memᴰ
 use mathlib.Core.List.{Memᴰ}
 use Rattle.std.proofs.lemmas.Bool.{cond-true}
@@ -23,7 +24,7 @@ use Rattle.protocol.specs.Steps.{Handed, Open, Replay, State, handed, wake_ops, 
 use Rattle.protocol.specs.Promises.{Pages, flat, Sent, added, market_after, notices_count, record_notices, OfRecord, RunsOver}
 use Rattle.protocol.proofs.Devices.{Ran, all_did}
 use Rattle.protocol.proofs.Codecs.{PageFits, Laws}
-use Rattle.protocol.proofs.Lists.{some_inj, counted_below, after_valid}
+use Rattle.protocol.proofs.Lists.{counted_below, after_valid}
 use Rattle.protocol.proofs.Sectors.{in_journal}
 use Rattle.protocol.proofs.Reasons.{may_open}
 use Rattle.protocol.proofs.Safe.{bytes_inj, May, Whole, Only, Shrinks, Single, did_whole, own, from_only, synced_single, head_within, body_within, page_after, head_of, NextFits, page_fits, Saved, IsSent, safe_adds, front_fits, front_last, inside_fits, other_other, Rested, rests}
@@ -78,7 +79,7 @@ module _ {S : Type 0} (w : World S) (laws : Laws w) where
             omega arith)
 
     chosen_head : {s : SlotHeader} → Chosen w m s → s.header ≡ head_of w laws f
-    chosen_head {s} c = some_inj _ _ (sym (subst (λ z. header_of w m z ≡ Some s.header) (chosen_slot c) c.there) ∙ there)
+    chosen_head {s} c = same_Some _ _ (sym (subst (λ z. header_of w m z ≡ Some s.header) (chosen_slot c) c.there) ∙ there)
 
     chosen_loads : {s : SlotHeader} → Chosen w m s → loaded w m s ≡ Ok (market_after w f)
     chosen_loads {s} c = loads m s f v.safe.whole (subst (λ z. Saved w laws m z f) (sym (chosen_slot c)) v.safe.body) (front_last w laws v.safe ∙ sym (ap (λ (h : Header). h.commands.0) (chosen_head c)))
@@ -216,7 +217,7 @@ module _ {S : Type 0} (w : World S) (laws : Laws w) where
 
     -- a page image says which page was read
     page_is : (es : Pages) (p : List Command) → PageFits (suc (length es)) (suc (length (flat es))) p → s.content ≡ page_after w laws es p → s.page ≡ p
-    page_is es p fit b = ap (λ (a : Contents). a.commands) (some_inj _ _ (sym s.good ∙ ap decoded_page b ∙ laws.page_good _ _ _ fit))
+    page_is es p fit b = ap (λ (a : Contents). a.commands) (same_Some _ _ (sym s.good ∙ ap decoded_page b ∙ laws.page_good _ _ _ fit))
 
     number_is : h.receipt.page.0 ≡ suc (length v.done)
     number_is = ap (λ (z : ReceiptNumbers). z.page.0) s.answer ∙ ap suc v.over.pages

@@ -1,5 +1,7 @@
 -- What is known when no reason fits, and which reasons can be given.
-use Rattle.std.proofs.Common.{◌≡◌, ℕ, suc, ◌+◌, ◌<◌, ◌≤◌, Bool, true, false, ◌||◌, ◌≢◌, List, [], ◌∷◌, length, Some, sym, refl, subst, true≢false, arith, ltb-false, leb-false}
+use Rattle.std.proofs.Common.{◌≡◌, ℕ, suc, ◌+◌, ◌<◌, ◌≤◌, Bool, true, false, ◌≢◌, List, [], ◌∷◌, length, Some, sym, refl, subst, true≢false, arith, ltb-false, leb-false}
+use Rattle.std.proofs.lemmas.Bool.{or_parts}
+use Rattle.std.proofs.lemmas.Option.{same_Some}
 use borrow.Author.Tests.{eqb-false}
 use Rattle.records.specs.declared.refusals.Refusal.{Refusal}
 use Rattle.records.proofs.SectorLaws.{none_some}
@@ -13,7 +15,6 @@ use Rattle.protocol.specs.Faults.{reason_of, plain, first_fit}
 use Rattle.protocol.specs.Worlds.{N, World}
 use Rattle.protocol.specs.Steps.{State, not_in, Allowed, open_reasons, stage_reasons, write_reasons, sync_reasons, deliver_reasons, snapshot_reasons, replay_reasons}
 use Rattle.protocol.proofs.Codecs.{Laws}
-use Rattle.protocol.proofs.Lists.{some_inj}
 
 -- no reason fits: each test fails
 abbrev AllFail : List (Bool × Refusal) → Type 0
@@ -24,14 +25,6 @@ none_fits : (rs : List (Bool × Refusal)) → Allowed rs → AllFail rs
 none_fits [] a = tt
 none_fits ((true, r) ∷ rs) a = none_some r (sym a)
 none_fits ((false, r) ∷ rs) a = (refl, none_fits rs a)
-
-left_false : (a b : Bool) → (a || b) ≡ false → a ≡ false
-left_false true b e = e
-left_false false b e = refl
-
-right_false : (a b : Bool) → (a || b) ≡ false → b ≡ false
-right_false true b e = absurd (true≢false e)
-right_false false b e = e
 
 in_phase : (p q : Phase) → not_in p q ≡ false → q ≡ p
 in_phase Live Live e = refl
@@ -81,7 +74,7 @@ module _ {S : Type 0} (w : World S) (laws : Laws w) where
 
   -- a receipt that deliver keeps begins no higher than one above the mark
   pub may_deliver : (x : State S) (r : ReceiptNumbers) → Allowed (deliver_reasons w x r) → r.notice.0 ≤ suc x.mark
-  may_deliver x r a = ltb-false (suc x.mark) r.notice.0 (left_false _ _ (right_false _ _ (none_fits (deliver_reasons w x r) a).0))
+  may_deliver x r a = ltb-false (suc x.mark) r.notice.0 (or_parts _ _ (or_parts _ _ (none_fits (deliver_reasons w x r) a).0).1).0
 
   pub record Snapshots (x : State S) : Type 0 where
     pub phase : x.phase ≡ Live
@@ -109,7 +102,7 @@ AllOrdinary ((test, r) ∷ rs) = Ordinary (plain r) × AllOrdinary rs
 
 first_ordinary : (rs : List (Bool × Refusal)) → AllOrdinary rs → (r : Refusal) → first_fit rs ≡ Some r → Ordinary (plain r)
 first_ordinary [] a r e = none_some r e
-first_ordinary ((true, q) ∷ rs) a r e = subst (λ z. Ordinary (plain z)) (some_inj q r e) a.0
+first_ordinary ((true, q) ∷ rs) a r e = subst (λ z. Ordinary (plain z)) (same_Some q r e) a.0
 first_ordinary ((false, q) ∷ rs) a r e = first_ordinary rs a.1 r e
 
 pub ordinary : (rs : List (Bool × Refusal)) → AllOrdinary rs → (f : ExchangeFault) (r : Refusal) → first_fit rs ≡ Some r → f ≡ plain r → Ordinary f

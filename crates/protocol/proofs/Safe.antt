@@ -1,5 +1,6 @@
 -- What the device always holds, as statements on every member of a sector's set: they survive all that adds nothing to the sets.
 use Rattle.std.proofs.Common.{◌≡◌, ℕ, suc, ◌+◌, ◌<◌, ◌≤◌, true, ◌≢◌, ◌⊎◌, List, [], ◌∷◌, ◌++◌, length, Some, Option, sym, refl, ap, ◌∙◌, subst, subst₂, inl, inr, append_assoc, arith, length-append}
+use Rattle.std.proofs.lemmas.Option.{same_Some}
 use mathlib.Core.Path.{Path}
 use Rattle.records.specs.LittleEndian.{le}
 use Rattle.records.specs.Headers.{header_sector_bytes}
@@ -18,7 +19,7 @@ use Rattle.protocol.specs.Steps.{shown}
 use Rattle.protocol.specs.Promises.{Pages, flat, Sent, market_after, notices_count}
 use Rattle.protocol.proofs.Devices.{NoMore, Did, Cut}
 use Rattle.protocol.proofs.Codecs.{PageFits, HeaderFits, Laws}
-use Rattle.protocol.proofs.Lists.{some_inj, flat_append, flat_snoc, last_after, given_few, Full, AllFull, full_snoc, full_front, full_at, full_sizes, Inside, AtEnd, snoc_split}
+use Rattle.protocol.proofs.Lists.{flat_append, flat_snoc, last_after, given_few, Full, AllFull, full_snoc, full_front, full_at, full_sizes, Inside, AtEnd, snoc_split}
 use Rattle.protocol.proofs.Sectors.{apart, in_journal, below_journal, body_below}
 
 pub bytes_inj : (r : Reading) (a b : List ℕ) → r ≡ bytes a → r ≡ bytes b → a ≡ b
@@ -303,7 +304,7 @@ module _ {S : Type 0} (w : World S) (laws : Laws w) where
   behind : (f to : Pages) (r : Reading) → HeadFits f → r ≡ bytes (header_sector_bytes (head_of f)) → length f < length to → Behind to r
   behind f to r fit e l h g =
       let same : Some (head_of f) ≡ Some h = sym (laws.header_good _ _ _ fit) ∙ sym (ap (shown w) e) ∙ g in
-      let p : length f ≡ h.page.0 = ap (λ (z : Header). z.page.0) (some_inj _ _ same) in
+      let p : length f ≡ h.page.0 = ap (λ (z : Header). z.page.0) (same_Some _ _ same) in
       omega arith
 
   pub other_other : (t : Slot) → other (other t) ≡ t

@@ -1,5 +1,6 @@
 -- A market that keeps the laws, and a run of its exchange over a device that keeps all that it is given.
 use Rattle.std.proofs.Common.{◌≡◌, ℕ, zero, suc, ◌+◌, ◌-◌, ◌*◌, ◌<◌, ◌≤◌, Bool, true, false, cond, ◌&&◌, eqb, ltb, leb, ◌⊎◌, List, [], ◌∷◌, ◌++◌, length, drop, replicate, Some, None, Ok, Option, sym, refl, ap, ◌∙◌, subst, inl, inr, ⊎_elim, arith, length-append, length-drop, length-take-le, take_at, ltb-true, eq-eqb, ne_eqb, eqb-true, le-leb, leb-true}
+use Rattle.std.proofs.lemmas.Option.{same_Some}
 use mathlib.Core.Bool.{false≢true}
 use lib.ListN.{length-replicate}
 use Rattle.std.proofs.lemmas.Bool.{and_from, and_parts, cond-true}
@@ -31,7 +32,6 @@ use Rattle.protocol.specs.Steps.{Stage, Write, Sync, Deliver, Snapshot, State, i
 use Rattle.protocol.specs.Promises.{with_command, Run}
 use Rattle.protocol.specs.Witness.{MarketLaws, same_bytes, saved, found, counting, same_reading, disk, house_seven, an_order, its_cancel, a_cross, one_ticket, page_one, till_opened, ARun}
 use Rattle.protocol.proofs.Codecs.{PageFits, Laws, parts_join, good_contents, laws_of}
-use Rattle.protocol.proofs.Lists.{some_inj}
 use Rattle.protocol.proofs.Sectors.{below_journal, body_below}
 use Rattle.protocol.proofs.Safe.{bytes_inj, torn_bytes}
 
@@ -84,7 +84,7 @@ found_saved b n e =
     ⊎_elim
     (λ t.
     let p = and_parts (leb (field 0 8 b) N) (same_bytes (saved (field 0 8 b)) b) t.0 in
-    let k = some_inj (field 0 8 b) n t.1 in
+    let k = same_Some (field 0 8 b) n t.1 in
     subst (λ z. (z ≤ N) × (saved z ≡ b)) k (leb-true (field 0 8 b) N p.0, from_same (saved (field 0 8 b)) b p.1))
     (λ t. none_some n t.1)
     (which (leb (field 0 8 b) N && same_bytes (saved (field 0 8 b)) b) (Some (field 0 8 b)) None (Some n) e)

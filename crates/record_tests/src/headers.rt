@@ -80,7 +80,7 @@ fn comes_back(rt: HostRuntime) -> Result<(), Fail> {
     Ok(())
 }
 
-// Whether each change makes a sector that is no good header.
+// Whether each change makes a sector that is no good header. (One line over `each`; its twin asks for a page.)
 fn are_refused(good: &[u8; 512], changes: &[Change]) -> bool {
     each(good, changes, |sector| Header::decode(sector).is_none())
 }

@@ -152,7 +152,7 @@ fn comes_back(rt: HostRuntime) -> Result<(), Fail> {
     Ok(())
 }
 
-// Whether each change makes a sector that is no good page.
+// Whether each change makes a sector that is no good page. (One line over `each`; its twin asks for a header.)
 fn are_refused(good: &[u8; 512], changes: &[Change]) -> bool {
     each(good, changes, |sector| Page::decode(sector).is_none())
 }

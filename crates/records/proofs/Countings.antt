@@ -1,6 +1,6 @@
 -- The loop that numbers notices.
 use Rattle.std.proofs.Common.{◌≡◌, ℕ, ◌+◌, ◌<◌, ◌≤◌, List, [], ◌∷◌, ◌++◌, length, get_or, take, drop, set, sym, ap, ◌∙◌, arith, length-set}
-use Rattle.std.proofs.lemmas.List.{take_more, drop_more, take_more_set, drop-set-lt, take_all, drop-drop, length-take-le}
+use Rattle.std.proofs.lemmas.List.{take_more, drop_more, take_more_set, drop-set-lt, drop-drop, length-take-le}
 use Rattle.records.specs.declared.notices.Notice.{Notice}
 use Rattle.records.specs.Notices.{numbered, counted}
 
@@ -35,8 +35,3 @@ module _ (n : ℕ) (xs ys : List Notice) (i : ℕ) (d : Notice) (f : Counting n 
         rest = drop-set-lt (i + 1) ys i v (omega arith) ∙ sym (drop-drop 1 i ys) ∙ ap (drop 1) f.rest ∙ drop-drop 1 i xs;
         long = simp length-set f.long;
       }
-
-pub counting_all : (n : ℕ) (xs ys : List Notice) (i : ℕ) → Counting n xs ys i → length ys ≤ i → ys ≡ counted n xs
-counting_all n xs ys i f h =
-    let l : length xs ≤ i = omega (arith, f.long) in
-    sym (take_all i ys h) ∙ f.done ∙ ap (counted n) (take_all i xs l)

@@ -1,25 +1,13 @@
 -- The turns of the loops that write and read the commands of a page.
-use Rattle.std.proofs.Common.{◌≡◌, ℕ, suc, ◌+◌, ◌-◌, ◌<◌, ◌≤◌, Bool, true, false, cond, ◌&&◌, eqb, List, [], ◌∷◌, ◌++◌, length, get_or, take, drop, IfSome, Some, None, Option, sym, refl, ap, ◌∙◌, append_assoc, append-nil, arith}
-use Rattle.std.specs.List.{flat_map}
+use Rattle.std.proofs.Common.{◌≡◌, ℕ, suc, ◌+◌, ◌-◌, ◌<◌, ◌≤◌, Bool, true, false, cond, eqb, List, [], ◌∷◌, ◌++◌, length, take, drop, IfSome, Some, None, Option, sym, refl, ap, append_assoc, append-nil, arith}
 use Rattle.std.proofs.lemmas.Bool.{ne_eqb, cond-false}
-use Rattle.std.proofs.lemmas.List.{take_more, take_all, flat_map_more, length-append, length-take, at_drop_more}
-use Rattle.records.proofs.Pieces.{then}
+use Rattle.std.proofs.lemmas.List.{take_all, length-take}
 use Rattle.records.proofs.LittleEndianLaws.{bytes_take}
 use Rattle.records.proofs.CommandLaws.{only_records}
 use Rattle.records.specs.declared.commands.Command.{Command}
 use Rattle.records.specs.LittleEndian.{field, Bytes}
-use Rattle.records.specs.Commands.{good, encoded, decoded}
-use Rattle.records.specs.Pages.{all_good, after, first_in_bytes, commands_in_bytes}
-
--- one command more
-joined_next : (cs : List Command) (i : ℕ) (d : Command) → i < length cs → flat_map encoded (take (i + 1) cs) ≡ flat_map encoded (take i cs) ++ encoded (get_or cs i d)
-joined_next cs i d h = ap (flat_map encoded) (take_more cs i d h) ∙ sym (flat_map_more encoded [] (take i cs) (get_or cs i d))
-
-pub length_next : (cs : List Command) (i : ℕ) (d : Command) → i < length cs → length (flat_map encoded (take (i + 1) cs)) ≡ length (flat_map encoded (take i cs)) + length (encoded (get_or cs i d))
-length_next cs i d h = ap length (joined_next cs i d h) ∙ length-append _ _
-
-pub joined_turn : (h w v : List ℕ) (cs : List Command) (i : ℕ) (d : Command) → w ≡ h ++ flat_map encoded (take i cs) → v ≡ w ++ encoded (get_or cs i d) → i < length cs → v ≡ h ++ flat_map encoded (take (i + 1) cs)
-joined_turn h w v cs i d p q l = then h _ _ p q ∙ ap (λ x. h ++ x) (sym (joined_next cs i d l))
+use Rattle.records.specs.Commands.{encoded, decoded}
+use Rattle.records.specs.Pages.{after, first_in_bytes, commands_in_bytes}
 
 cond_same : {A : Type 0} (b : Bool) (x : A) → cond b x x ≡ x
 cond_same true x = refl

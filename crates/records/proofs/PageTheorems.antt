@@ -1,8 +1,8 @@
 -- A good page comes back from its sector, and no other sector is taken for a page.
-use Rattle.std.proofs.Common.{◌≡◌, ℕ, zero, suc, ◌+◌, ◌-◌, ◌*◌, ◌^◌, ◌<◌, ◌≤◌, true, false, ◌&&◌, eqb, leb, List, [], ◌∷◌, ◌++◌, length, take, drop, replicate, Some, None, Option, sym, refl, ap, ◌∙◌, subst, ⊎_elim, append_assoc, arith}
+use Rattle.std.proofs.Common.{◌≡◌, ℕ, zero, suc, ◌+◌, ◌-◌, ◌*◌, ◌^◌, ◌<◌, ◌≤◌, true, ◌&&◌, eqb, leb, List, [], ◌∷◌, ◌++◌, length, take, drop, replicate, Some, None, Option, sym, refl, ap, ◌∙◌, subst, ⊎_elim, append_assoc, arith}
 use Rattle.std.specs.List.{flat_map}
 use Rattle.std.proofs.lemmas.Bool.Decides.{nat_tests}
-use Rattle.std.proofs.lemmas.Bool.{and_parts, and_from, eqb-true, le-leb, lt-ltb, cond-true, cond-false, and_left, and_right, leb-true, ltb-true}
+use Rattle.std.proofs.lemmas.Bool.{and_parts, and_from, eqb-true, le-leb, lt-ltb, leb-true, ltb-true}
 use Rattle.std.proofs.lemmas.List.{take_at, drop_at, length-append, length-take-le, length-drop, take-append-drop, drop-drop, nil_from_length}
 use Rattle.records.proofs.LittleEndianLaws.{bytes_take, bytes_drop, number_le, field_lt, le_cut}
 use Rattle.records.proofs.CommandLaws.{comes_back, only_records, which}
@@ -15,7 +15,7 @@ use Rattle.records.specs.declared.pages.PageHead.{PageHead}
 use Rattle.records.specs.LittleEndian.{le, number, field, Bytes}
 use Rattle.records.specs.Commands.{good, encoded, within}
 use Rattle.records.specs.Sectors.{zeros, fits_in}
-use Rattle.records.specs.Pages.{Contents, page_of, all_good, numbers_good, good_page, head_bytes, page_record, page_sector_bytes, encoded_page, first_in_bytes, and_then, after, commands_in_bytes, head_in, with_commands, body_in, laid_out, decoded_page, bytes_look_for, PageKept, DecodedPage, ZerosLookLikeNone}
+use Rattle.records.specs.Pages.{Contents, page_of, all_good, numbers_good, good_page, head_bytes, page_record, page_sector_bytes, first_in_bytes, and_then, after, commands_in_bytes, head_in, with_commands, body_in, laid_out, decoded_page, bytes_look_for, PageKept, DecodedPage, ZerosLookLikeNone}
 
 -- the first field of a record is its length
 first_field : (c : Command) (rest : List ℕ) → field 0 2 (encoded c ++ rest) ≡ length (encoded c)
@@ -42,7 +42,7 @@ size_le (Enter m s p l) = omega arith
 size_le (Cancel m o) = omega arith
 size_le Cross = omega arith
 
-joined_le : (cs : List Command) → length (flat_map encoded cs) ≤ 18 * length cs
+pub joined_le : (cs : List Command) → length (flat_map encoded cs) ≤ 18 * length cs
 joined_le [] = omega arith
 joined_le (c ∷ cs) = rw length-append (omega (arith, size_le c, joined_le cs))
 

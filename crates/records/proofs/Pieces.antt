@@ -1,6 +1,5 @@
 -- Bytes that are written one piece after another, in front of zeros.
-use Rattle.std.proofs.Common.{◌≡◌, ℕ, ◌+◌, ◌-◌, List, ◌++◌, drop, replicate, sym, ap, ◌∙◌, append_assoc, arith}
-use Rattle.std.proofs.lemmas.List.{drop-drop, drop-replicate}
+use Rattle.std.proofs.Common.{◌≡◌, ℕ, List, ◌++◌, ap, ◌∙◌, append_assoc}
 
 -- one piece after another
 pub then : {v u : List ℕ} (w a b : List ℕ) → v ≡ w ++ a → u ≡ v ++ b → u ≡ w ++ (a ++ b)

@@ -1,8 +1,8 @@
 -- Records in front of zeros.
-use Rattle.std.proofs.Common.{◌≡◌, ℕ, zero, suc, ◌-◌, ◌≤◌, true, eqb, List, [], ◌∷◌, ◌++◌, length, take, drop, replicate, Some, None, Option, sym, refl, ap, ◌∙◌, arith}
-use Rattle.std.proofs.lemmas.List.{take-append-drop, length-take-le}
+use Rattle.std.proofs.Common.{◌≡◌, ℕ, zero, suc, true, eqb, List, [], ◌∷◌, length, replicate, Some, None, Option, refl}
 use Rattle.std.proofs.lemmas.Bool.{and_parts, eqb-true}
-use Rattle.records.specs.Sectors.{padded, zeros}
+use Rattle.records.specs.Sectors.{zeros}
+use Rattle.std.proofs.lemmas.Option.{none-some}
 
 pub zeros_replicate : (n : ℕ) → zeros (replicate n 0) ≡ true
 zeros_replicate zero = refl
@@ -18,4 +18,4 @@ zeros_are (b ∷ bs) h =
 
 -- none is not some
 pub none_some : {A X : Type 0} (x : A) → ◌≡◌ {A = Option A} None (Some x) → X
-none_some x h = let z : ◌≡◌ {A = ℕ} 0 1 = cc in absurd (omega arith)
+none_some x h = absurd (none-some x h)

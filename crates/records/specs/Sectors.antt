@@ -1,5 +1,5 @@
 -- A record in its sector.
-use Rattle.std.specs.Prelude.{ℕ, ◌-◌, ◌^◌, Bool, true, ◌&&◌, List, [], ◌∷◌, ◌++◌, length, replicate, ◌==◌, nat_lt}
+use Rattle.std.specs.Prelude.{ℕ, ◌-◌, ◌^◌, Bool, List, ◌++◌, length, replicate, ◌==◌, nat_lt}
 use Rattle.std.specs.List.{list_all}
 
 -- bs, and zeros up to n bytes

@@ -24,7 +24,8 @@ pub trait LittleEndian: Copy {
         ensures { number result ≡ field at width bytes.now };
 }
 
-// Three impls of one shape: the width is in the names of the library's calls, and no const parameter can choose them.
+// Three impls of one shape: `to_le_bytes` is each type's own and of no trait, and the gate takes no impl that a macro of ours
+// writes.
 impl LittleEndian for u16 {
     type Bytes = [u8; 2];
 

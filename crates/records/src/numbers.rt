@@ -2,7 +2,7 @@
 
 mod ranges;
 
-/// The largest command, page or notice number that a record may hold in a range of its own.
+/// The largest number that a command can have.
 pub const LAST_NUMBER: u64 = 1_000_000_000_000;
 
 /// The largest member's number.

@@ -1,5 +1,5 @@
 -- A log grows by an entry, and the run with it.
-use Rattle.std.proofs.Common.{◌≡◌, ℕ, ◌+◌, ◌<◌, List, [], ◌∷◌, ◌++◌, length, get_or, take, Some, None, Ok, Err, vec_items, Option, Result, sym, refl, ap, ◌∙◌, subst, append_assoc, append-nil, MatchResult}
+use Rattle.std.proofs.Common.{◌≡◌, ℕ, ◌+◌, ◌<◌, List, [], ◌∷◌, ◌++◌, length, get_or, take, Some, None, Ok, Err, vec_items, Option, Result, sym, refl, ap, ◌∙◌, subst, append_assoc, MatchResult}
 use Rattle.std.proofs.lemmas.List.{take_more}
 use Rattle.market.specs.declared.interface.Market as market
 use Rattle.device.specs.declared.Device as device
@@ -43,10 +43,6 @@ module _ {M D : Type 0} (m : market.Ghosts M) (d : device.Ghosts D) where
 
   pub went_on : (x y : Exchange M D) (es fs : List Entry) (e : Entry) → fs ≡ es ++ e ∷ [] → Told m d x e y → WentOn m d x es y fs
   went_on x y es fs e q t r = subst (λ h. promises.Run (rules_of m) h (view m d y)) (sym (ap history q ∙ history_more es e [])) (goes x y (event_of e) (history es) t r)
-
-  -- nothing yet
-  pub played_none : (x : Exchange M D) (h : Hand) (es : List Entry) → PlayedOn m d x h es [] x h es
-  played_none x h es = record { run = λ r. r; new = []; log = sym (append-nil es); played = refl }
 
   -- one call more of a script
   pub played_next : (x y z : Exchange M D) (h k l : Hand) (es fs gs : List Entry) (script : List Call) (i : ℕ) (c : Call) (e : Entry) → i < length script → PlayedOn m d x h es (take i script) y k fs →

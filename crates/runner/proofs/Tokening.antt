@@ -1,42 +1,23 @@
 -- Tokens that come back, and those that do not.
-use Rattle.std.proofs.Common.{◌≡◌, ℕ, ◌≤◌, Bool, true, false, cond, ◌||◌, eqb, ◌⊎◌, List, length, IfOk, Some, None, Ok, Err, Option, Result, sym, refl, ap, ◌∙◌, subst, inl, inr, arith}
-use Rattle.std.proofs.lemmas.Bool.{eq-eqb, ne_eqb}
+use Rattle.std.proofs.Common.{◌≡◌, ℕ, ◌+◌, ◌-◌, ◌≤◌, Bool, true, false, cond, eqb, List, ◌++◌, length, set, IfOk, OnErr, Some, None, Ok, Err, Option, Result, sym, refl, ap, ◌∙◌, subst, arith}
+use Rattle.std.proofs.lemmas.List.{length-append, length-set}
 use Rattle.protocol.specs.declared.faults.ExchangeFault.{ExchangeFault}
-use Rattle.protocol.specs.Faults.{reason_of}
+use Rattle.protocol.specs.declared.tokens.TicketNumbers.{TicketNumbers}
 use Rattle.exchange.specs.declared.tokens.Ticket.{Ticket}
-use Rattle.exchange.specs.declared.tokens.SyncRefusal.{SyncRefusal}
-use Rattle.exchange.specs.declared.tokens.SyncRefusal.TheVariants.{Back, Spent}
-use Rattle.exchange.specs.Answers.{TicketBack}
-use Rattle.runner.specs.Tokens.{Tokens, held, cleared, returned}
+use Rattle.exchange.specs.declared.tokens.Receipt.{Receipt}
+use Rattle.runner.specs.Tokens.{Tokens, held, cleared, returned, most_closing}
+use Rattle.runner.specs.declared.log.HandedOut.{HandedOut}
 use Rattle.runner.specs.declared.log.Entry.{Entry}
+use Rattle.runner.specs.declared.log.Entry.TheVariants as entry
 use Rattle.runner.specs.declared.script.Call.{Call}
 use Rattle.runner.specs.declared.script.Call.TheVariants as call
-use Rattle.runner.specs.Playing.{writes, replays, made, ticket_back, after_entry, Answers}
-use Rattle.runner.proofs.Places.{back_again, held_inside, cleared_held}
-
--- a refusal that is answered 9 or 10, and any other
-comes : (f : ExchangeFault) → (reason_of f ≡ 9) ⊎ (reason_of f ≡ 10) → (eqb (reason_of f) 9 || eqb (reason_of f) 10) ≡ true
-comes f (inl e) = rw (eq-eqb (reason_of f) 9 e) refl
-comes f (inr e) = go (eqb (reason_of f) 9)
-  where
-    go : (b : Bool) → (b || eqb (reason_of f) 10) ≡ true
-    go true = refl
-    go false = eq-eqb (reason_of f) 10 e
-
-pub ticket_returns : (t u : Ticket) (f : ExchangeFault) (e : SyncRefusal) → TicketBack t (Err e) → e ≡ Back u f → Some u ≡ cond (ticket_back (Err f)) (Some t) None
-ticket_returns t u f e b q = let k = subst (λ z. TicketBack t (Err z)) q b in rw (comes f k.1) (ap Some k.0)
-
-pub ticket_stays : (t : Ticket) (f : ExchangeFault) (e : SyncRefusal) → TicketBack t (Err e) → e ≡ Spent f → ◌≡◌ {A = Option Ticket} None (cond (ticket_back (Err f)) (Some t) None)
-ticket_stays t f e b q = let k = subst (λ z. TicketBack t (Err z)) q b in rw (ne_eqb (reason_of f) 9 k.0, ne_eqb (reason_of f) 10 k.1) refl
+use Rattle.runner.specs.Playing.{writes, replays, made, ticket_in, receipt_in, receipt_read, ticket_back, receipt_back, after_entry, token_of, Answers}
+use Rattle.runner.proofs.Places.{back_again}
 
 -- what was taken and comes back, or not
 pub back_or_gone : {X : Type 0} (xs ys : List (Option X)) (n : ℕ) (x : X) (o : Option X) (b : Bool) → held xs n ≡ Some x → ys ≡ cleared xs n → o ≡ cond b (Some x) None → returned o ys n ≡ cond b xs (cleared xs n)
 back_or_gone xs ys n x o true h e q = (λ i. returned (q i) (e i) n) ∙ back_again xs n x h
 back_or_gone xs ys n x o false h e q = (λ i. returned (q i) (e i) n)
-
--- what a taken token leaves: nothing under its number, which is one of the list's
-pub taken_leaves : {X : Type 0} (xs ys : List (Option X)) (n : ℕ) (x : X) (l : ℕ) → held xs n ≡ Some x → ys ≡ cleared xs n → l ≡ length xs → (held ys n ≡ None) × ((1 ≤ n) × (n ≤ l))
-taken_leaves xs ys n x l h e k = let p = held_inside xs n x h in (ap (λ z. held z n) e ∙ cleared_held xs n, (p.0, omega arith))
 
 -- a replay's entry, where memory was found for its list
 pub replay_answers : {E : Type 0} (before mid after : Tokens) (c : Call) (room : ℕ) (r : Result Entry E) → c ≡ call.Replay room → mid ≡ before → IfOk r (λ e. made e ≡ replays room) → IfOk r (λ e. after ≡ after_entry mid 0 e) → IfOk r (λ e. Answers before c e after)
@@ -49,3 +30,48 @@ at_tokens (Err f) P x h = tt
 
 pub write_answers : (before mid after : Tokens) (c : Call) (e : Entry) → c ≡ call.Write → mid ≡ before → made e ≡ writes → after ≡ after_entry mid 0 e → Answers before c e after
 write_answers before mid after c e q m a t = subst (λ z. Answers before z e after) (sym q) (record { call = a; tokens = t ∙ ap (λ h. after_entry h 0 e) m })
+
+-- how many tokens there are at hand after an entry
+length_cleared : {X : Type 0} (xs : List (Option X)) (n : ℕ) → length (cleared xs n) ≡ length xs
+length_cleared xs n = go (eqb n 0)
+  where
+    go : (b : Bool) → length (cond b xs (set xs (n - 1) None)) ≡ length xs
+    go true = refl
+    go false = length-set xs (n - 1) None
+
+length_kept : {X : Type 0} (xs : List (Option X)) (n : ℕ) (b : Bool) → length (cond b xs (cleared xs n)) ≡ length xs
+length_kept xs n true = refl
+length_kept xs n false = length_cleared xs n
+
+one_ticket : (ts : List (Option Ticket)) (a : Result TicketNumbers ExchangeFault) → length (ts ++ ticket_in a) ≤ length ts + 1
+one_ticket ts (Ok t) = rw length-append (omega arith)
+one_ticket ts (Err f) = rw length-append (omega arith)
+
+one_receipt : (rs : List (Option Receipt)) (a : Result HandedOut ExchangeFault) → length (rs ++ receipt_in a) ≤ length rs + 1
+one_receipt rs (Ok t) = rw length-append (omega arith)
+one_receipt rs (Err f) = rw length-append (omega arith)
+
+one_read : (rs : List (Option Receipt)) (a : Result (Option HandedOut) ExchangeFault) → length (rs ++ receipt_read a) ≤ length rs + 1
+one_read rs (Ok (Some t)) = rw length-append (omega arith)
+one_read rs (Ok None) = rw length-append (omega arith)
+one_read rs (Err f) = rw length-append (omega arith)
+
+grows : (h : Tokens) (i : ℕ) (e : Entry) → most_closing (after_entry h i e) ≤ most_closing h + 3
+grows h i (entry.Stage bs a) = omega arith
+grows h i (entry.Write a) = omega (arith, one_ticket h.tickets a)
+grows h i (entry.Sync t room a) = omega (arith, length_kept h.tickets i (ticket_back a), one_receipt h.receipts a)
+grows h i (entry.Deliver r a) = omega (arith, length_kept h.receipts i (receipt_back a))
+grows h i (entry.Shelve r) = omega (arith, length_cleared h.receipts i)
+grows h i (entry.Snapshot a) = omega arith
+grows h i entry.Restart = omega arith
+grows h i (entry.Open a) = omega arith
+grows h i (entry.Replay room a) = omega (arith, one_read h.receipts a)
+grows h i entry.Spent = omega arith
+
+-- a call brings at most one token of each kind
+pub answers_grow : (h k : Tokens) (c : Call) (e : Entry) → Answers h c e k → most_closing k ≤ most_closing h + 3
+answers_grow h k c e a = subst (λ z. most_closing z ≤ most_closing h + 3) (sym a.tokens) (grows h (token_of c) e)
+
+pub err_then : {A E : Type 0} {P Q : Type 0} (r : Result A E) → (P → Q) → OnErr r P → OnErr r Q
+err_then (Ok a) f h = tt
+err_then (Err e) f h = f h

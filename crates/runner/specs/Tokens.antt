@@ -1,5 +1,5 @@
 -- Tickets and receipts at hand, by their numbers.
-use Rattle.std.specs.Prelude.{ℕ, ◌-◌, cond, List, [], Some, None, Option, ◌==◌, slice_index_or, slice_set}
+use Rattle.std.specs.Prelude.{ℕ, ◌+◌, ◌-◌, ◌*◌, cond, length, List, [], Some, None, Option, ◌==◌, slice_index_or, slice_set}
 use Rattle.exchange.specs.declared.tokens.Ticket.{Ticket}
 use Rattle.exchange.specs.declared.tokens.Receipt.{Receipt}
 
@@ -23,3 +23,7 @@ cleared xs n = cond (n == 0) xs (slice_set xs (n - 1) None)
 abbrev pub returned : {X : Type 0} → Option X → List (Option X) → ℕ → List (Option X)
 returned None xs n = xs
 returned (Some x) xs n = slice_set xs (n - 1) (Some x)
+
+-- how many entries spend all of these, at most: two for a ticket, one for a receipt
+abbrev pub most_closing : Tokens → ℕ
+most_closing h = 2 * length h.tickets + length h.receipts

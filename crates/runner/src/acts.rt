@@ -1,5 +1,5 @@
 //! One call of a script, made.
-ghost use Rattle.std.specs.Prelude.{◌≡◌, ◌<◌, List, ◌++◌, IfOk, if◌then◌else◌, Some, None, vec_len, vec_capacity, Option};
+ghost use Rattle.std.specs.Prelude.{◌≡◌, ◌<◌, List, ◌++◌, IfOk, if◌then◌else◌, Some, None, vec_len, vec_capacity, Option, OnErr};
 ghost use Rattle.protocol.specs.Steps.{Sync, Deliver, Replay};
 ghost use Rattle.exchange.specs.Answers.{sync_said, replay_said, TicketBack};
 ghost use Rattle.exchange.specs.Views.{Called};
@@ -19,13 +19,14 @@ use protocol::faults::ExchangeFault;
 use records::notices::Notice;
 use std::alloc::{AllocError, Global};
 
-// What a call with a token answered, and the token, where it comes back.
+// What a call with a token answered, and the token, where it comes back. Two parts: the answer goes into the log, and the token
+// to its place in the hand.
 struct Answered<A, T> {
     answer: Result<A, ExchangeFault>,
     back: Option<T>,
 }
 
-// Each act promises `Told`, and asks for room for the token that may come: the one call of all acts, `act`, reserves it.
+// Each act promises `Told`, which is one definition, and asks for room where a token may come: the one call of all acts, `act`, reserves it.
 // The exchange is lent by whoever runs the script, hand and log are the run's own: a struct of them would be made anew for each
 // act, and name the exchange one step deeper in each clause.
 fn act_stage<M: Market, D: Device>(
@@ -99,15 +100,13 @@ fn sync_with<M: Market, D: Device>(
             answer: Ok(keep(receipt, list, receipts)),
             back: None,
         },
-        Err(refusal) => match refusal {
-            SyncRefusal::Back(ticket, fault) => Answered {
-                answer: Err(fault),
-                back: Some(ticket),
-            },
-            SyncRefusal::Spent(fault) => Answered {
-                answer: Err(fault),
-                back: None,
-            },
+        Err(SyncRefusal::Back(ticket, fault)) => Answered {
+            answer: Err(fault),
+            back: Some(ticket),
+        },
+        Err(SyncRefusal::Spent(fault)) => Answered {
+            answer: Err(fault),
+            back: None,
         },
     }
 }
@@ -122,6 +121,7 @@ fn act_sync<M: Market, D: Device>(
     requires { vec_len hand.old.receipts < vec_capacity hand.old.receipts }
     ensures told { IfOk result (λ e. Told M.Market D.Device exchange.old e exchange.new) }
     ensures made { IfOk result (λ e. (made e ≡ with_ticket (held hand.old.tickets.items number) room) × (tokens_of hand.new ≡ after_entry (tokens_of hand.old) number e)) }
+    ensures left { OnErr result (tokens_of hand.new ≡ tokens_of hand.old) }
 {
     let list = vec![in heap; Notice::default(); room]?;
     let Some(ticket) = take_token(&mut hand.tickets, number) else {
@@ -203,8 +203,10 @@ fn act_replay<M: Market, D: Device>(
     ensures told { IfOk result (λ e. Told M.Market D.Device exchange.old e exchange.new) }
     ensures made { IfOk result (λ e. made e ≡ replays room) }
     ensures tokens { IfOk result (λ e. (ts : List (Option Ticket)) → record { tickets = ts; receipts = receipts.new.items } ≡ after_entry (record { tickets = ts; receipts = receipts.old.items }) 0 e) }
+    ensures left { OnErr result (receipts.new.items ≡ receipts.old.items) }
 {
     let mut list = vec![in heap; Notice::default(); room]?;
+    // A match: what a closure writes into the hand is lost to the proof, as that of `map_err` in the exchange is.
     let answer = match replay_into(exchange, &mut list) {
         Ok(Some(receipt)) => Ok(Some(keep(receipt, list, receipts))),
         Ok(None) => Ok(None),
@@ -222,6 +224,7 @@ pub(crate) fn act<M: Market, D: Device>(
 ) -> Result<Entry, AllocError>
     ensures told { IfOk result (λ e. Told M.Market D.Device exchange.old e exchange.new) }
     ensures answers { IfOk result (λ e. Answers (tokens_of hand.old) call.now e (tokens_of hand.new)) }
+    ensures left { OnErr result (tokens_of hand.new ≡ tokens_of hand.old) }
 {
     hand.tickets.reserve(1)?;
     hand.receipts.reserve(1)?;

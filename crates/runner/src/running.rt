@@ -4,9 +4,11 @@ ghost use Rattle.protocol.specs.Worlds.{rules_of};
 ghost use Rattle.exchange.specs.Views.{view};
 ghost use Rattle.runner.specs.Events.{Told};
 ghost use Rattle.runner.specs.Playing.{Closes};
+ghost use Rattle.runner.specs.Hands.{tokens_of};
+ghost use Rattle.runner.specs.Tokens.{most_closing};
 ghost use Rattle.runner.specs.Outcomes.{Outcome};
 ghost use Rattle.runner.specs.Running.{Begun, PlayedOn, Closed, Finished};
-ghost use Rattle.runner.specs.declared.running.RunFault.TheVariants.{NoMemory};
+ghost use Rattle.runner.specs.declared.running.RunFault.TheVariants.{NoMemory, Refused};
 ghost use Rattle.protocol.specs.declared.phases.Phase.TheVariants.{Dark};
 
 use crate::acts::act;
@@ -38,7 +40,36 @@ pub enum RunFault {
     Refused(ExchangeFault),
 }
 
-// Makes the calls of a script, and notes each with its answer.
+impl From<AllocError> for RunFault {
+    ghost from_gives = { λ _ f. f ≡ NoMemory };
+
+    fn from(_e: AllocError) -> RunFault {
+        RunFault::NoMemory
+    }
+}
+
+impl From<ExchangeFault> for RunFault {
+    ghost from_gives = { λ e f. f ≡ Refused e };
+
+    fn from(fault: ExchangeFault) -> RunFault {
+        RunFault::Refused(fault)
+    }
+}
+
+// Room for one call's entry, and for those that spend the tokens that there may be after it.
+fn make_room(log: &mut Vec<Entry>, hand: &Hand) -> Result<(), AllocError>
+    ensures items { log.new.items ≡ log.old.items }
+    ensures capacity { vec_capacity log.old ≤ vec_capacity log.new }
+    ensures room { OnOk result (vec_len log.old + most_closing (tokens_of hand.now) + 4 ≤ vec_capacity log.new) }
+{
+    let tickets = hand.tickets.len().saturating_mul(2);
+    let closing = tickets.saturating_add(hand.receipts.len());
+    log.reserve(closing.saturating_add(4))
+}
+
+// Makes the calls of a script, and notes each with its answer. Also where memory gives out, the log keeps room for what spends
+// the tokens that are left. (Exchange, hand and log go together here and below: the first is lent by whoever runs the script, and a
+// struct of the three would be made anew for each.)
 fn play<M: Market, D: Device>(
     heap: Global,
     exchange: &mut Exchange<M, D>,
@@ -46,10 +77,12 @@ fn play<M: Market, D: Device>(
     log: &mut Vec<Entry>,
     script: &[Call],
 ) -> Result<(), AllocError>
-    ensures { OnOk result (PlayedOn M.Market D.Device exchange.old hand.old log.old.items script.now exchange.new hand.new log.new.items) }
+    requires { vec_len log.old + most_closing (tokens_of hand.old) ≤ vec_capacity log.old }
+    ensures played { OnOk result (PlayedOn M.Market D.Device exchange.old hand.old log.old.items script.now exchange.new hand.new log.new.items) }
+    ensures room { vec_len log.new + most_closing (tokens_of hand.new) ≤ vec_capacity log.new }
 {
     for call in script {
-        log.reserve(1)?;
+        make_room(log, hand)?;
         let entry = act(heap, exchange, hand, call)?;
         log.push_reserved(entry);
     }
@@ -65,14 +98,12 @@ fn spend<M: Market, D: Device>(exchange: &mut Exchange<M, D>, ticket: Ticket) ->
     let numbers = ticket.numbers();
     match exchange.sync(ticket, &mut []) {
         Ok(receipt) => unreachable(),
-        Err(refusal) => match refusal {
-            SyncRefusal::Back(ticket, fault) => unreachable(),
-            SyncRefusal::Spent(fault) => Entry::Sync(numbers, 0, Err(fault)),
-        },
+        Err(SyncRefusal::Back(ticket, fault)) => unreachable(),
+        Err(SyncRefusal::Spent(fault)) => Entry::Sync(numbers, 0, Err(fault)),
     }
 }
 
-// Spends all tickets, each after a restart.
+// Spends all tickets, each after a restart. (`Closed`, here and below, is one definition, which each step promises of its part.)
 fn close_tickets<M: Market, D: Device>(
     exchange: &mut Exchange<M, D>,
     tickets: &mut Vec<Option<Ticket>>,
@@ -112,65 +143,19 @@ fn close_receipts<M: Market, D: Device>(
     }
 }
 
-// Spends every ticket and every receipt, and notes nothing. It is not one text with what notes them: that would note by a
-// closure, and what a closure wrote is lost to the proof.
-fn discard<M: Market, D: Device>(exchange: &mut Exchange<M, D>, hand: Hand) {
-    let Hand {
-        mut tickets,
-        mut receipts,
-    } = hand;
-    while let Some(held) = tickets.pop() {
-        if let Some(ticket) = held {
-            exchange.restart();
-            let _ = spend(exchange, ticket);
-        }
-    }
-    shelve_all(exchange, &mut receipts);
+// Spends every ticket and every receipt that is left, and notes it.
+fn close<M: Market, D: Device>(exchange: &mut Exchange<M, D>, mut hand: Hand, log: &mut Vec<Entry>)
+    requires { vec_len log.old + most_closing (tokens_of hand) ≤ vec_capacity log.old }
+    ensures { Closed M.Market D.Device exchange.old log.old.items exchange.new log.new.items }
+{
+    close_tickets(exchange, &mut hand.tickets, log);
+    close_receipts(exchange, &mut hand.receipts, log);
+    let Hand { tickets, receipts } = hand;
     tickets.destroy_empty();
     receipts.destroy_empty();
 }
 
-// Shelves all receipts, and notes nothing.
-fn shelve_all<M: Market, D: Device>(
-    exchange: &mut Exchange<M, D>,
-    receipts: &mut Vec<Option<Receipt>>,
-)
-    ensures { vec_len receipts.new ≡ 0 }
-{
-    while let Some(held) = receipts.pop() {
-        if let Some(receipt) = held {
-            exchange.shelve(receipt);
-        }
-    }
-}
-
-// Spends every ticket and every receipt that is left, and notes it.
-fn close<M: Market, D: Device>(
-    exchange: &mut Exchange<M, D>,
-    mut hand: Hand,
-    log: &mut Vec<Entry>,
-) -> Result<(), AllocError>
-    ensures { OnOk result (Closed M.Market D.Device exchange.old log.old.items exchange.new log.new.items) }
-{
-    let tickets = hand.tickets.len().saturating_mul(2);
-    let needed = tickets.saturating_add(hand.receipts.len());
-    match log.reserve(needed) {
-        Ok(()) => {
-            close_tickets(exchange, &mut hand.tickets, log);
-            close_receipts(exchange, &mut hand.receipts, log);
-            let Hand { tickets, receipts } = hand;
-            tickets.destroy_empty();
-            receipts.destroy_empty();
-            Ok(())
-        }
-        Err(e) => {
-            discard(exchange, hand);
-            Err(e)
-        }
-    }
-}
-
-// The script, on an exchange that was just set up.
+// The script, on an exchange that was just set up. Every token is spent, also where memory gives out.
 fn run_on<M: Market, D: Device>(
     heap: Global,
     exchange: &mut Exchange<M, D>,
@@ -184,19 +169,11 @@ fn run_on<M: Market, D: Device>(
         receipts: Vec::new(heap),
     };
     let mut log = Vec::new(heap);
-    match play(heap, exchange, &mut hand, &mut log, script) {
-        Ok(()) => {
-            let closing = log.len();
-            match close(exchange, hand, &mut log) {
-                Ok(()) => Ok(Run { log, closing }),
-                Err(_) => Err(RunFault::NoMemory),
-            }
-        }
-        Err(_) => {
-            discard(exchange, hand);
-            Err(RunFault::NoMemory)
-        }
-    }
+    let played = play(heap, exchange, &mut hand, &mut log, script);
+    let closing = log.len();
+    close(exchange, hand, &mut log);
+    played?;
+    Ok(Run { log, closing })
 }
 
 /// Sets the exchange up and makes the calls of the script, with the tickets and receipts that they are answered; at the end
@@ -208,8 +185,6 @@ pub fn run_script<M: Market, D: Device>(
 ) -> Result<Run, RunFault>
     ensures { Outcome M.Market D.Device exchange.old script.now result exchange.new }
 {
-    match exchange.set_up() {
-        Ok(()) => run_on(heap, exchange, script),
-        Err(fault) => Err(RunFault::Refused(fault)),
-    }
+    exchange.set_up()?;
+    run_on(heap, exchange, script)
 }

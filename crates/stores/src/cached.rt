@@ -22,6 +22,7 @@ impl Store for Cached<'_> {
 
     ghost lender = { λ s. s.image.ghost_name };
 
+    // What both stores do alike is one call each.
     fn count(&self) -> usize {
         sectors::count(self.image)
     }

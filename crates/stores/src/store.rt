@@ -16,6 +16,7 @@ pub trait Store {
 
     ghost waiting: { Self → List Write };
 
+    // The memory that the store stands on. `kept` relates two moments, which no type can hold: each call says it.
     ghost Lender: { Type 0 };
 
     ghost lender: { Self → Lender };

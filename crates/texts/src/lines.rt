@@ -1,5 +1,5 @@
 //! The lines that tell what was done.
-ghost use Rattle.std.specs.Prelude.{Some};
+ghost use Rattle.std.specs.Prelude.{◌≡◌, Some, IfOk};
 ghost use Rattle.texts.specs.Texts.{side_word, command_text, told_text, notice_text, order_text};
 
 use market::orders::Order;
@@ -7,11 +7,13 @@ use records::commands::{Command, Side};
 use records::notices::{Kind, Notice};
 use records::numbers::CommandNumber;
 use std::fmt;
+use std::str::FromStr;
 
-/// A side as it is printed.
+/// A side as it is printed, and read.
 #[derive(Clone, Copy)]
 pub struct SideWord(pub Side);
 
+// Printing is a match.
 impl fmt::Display for SideWord {
     ghost output = { λ s. Some (side_word s.0) };
 
@@ -19,6 +21,24 @@ impl fmt::Display for SideWord {
         match self.0 {
             Side::Buy => write!(f, "buy"),
             Side::Sell => write!(f, "sell"),
+        }
+    }
+}
+
+/// The word names no side.
+#[derive(Clone, Copy, Debug)]
+pub struct NoSide;
+
+impl FromStr for SideWord {
+    type Err = NoSide;
+
+    ghost from_str_gives = { λ word r. IfOk r (λ s. word ≡ side_word s.0) };
+
+    fn from_str(word: &str) -> Result<SideWord, NoSide> {
+        match word {
+            "buy" => Ok(SideWord(Side::Buy)),
+            "sell" => Ok(SideWord(Side::Sell)),
+            _ => Err(NoSide),
         }
     }
 }

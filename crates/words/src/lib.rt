@@ -6,13 +6,13 @@
 
 ghost use Rattle.std.specs.Prelude.{◌≡◌, map, IfOk};
 ghost use Rattle.words.specs.Spellings.{Enters, Cancels, Spells};
-ghost use Rattle.texts.specs.Texts.{side_word};
 ghost use Rattle.words.specs.declared.LineFault.TheVariants.{Number};
 
-use records::commands::{Command, Side};
+use records::commands::Command;
 use records::numbers::{CommandNumber, Lots, Member, Price};
 use std::fmt;
 use std::str::FromStr;
+use texts::lines::{NoSide, SideWord};
 
 /// Why a line is no command.
 #[derive(Clone, Copy)]
@@ -62,6 +62,12 @@ impl From<NoNumber> for LineFault {
     }
 }
 
+impl From<NoSide> for LineFault {
+    fn from(_e: NoSide) -> LineFault {
+        LineFault::SideWord
+    }
+}
+
 /// The number that the text writes, which is to say what is named.
 pub fn number<N: FromStr>(text: &str, what: &'static str) -> Result<N, NoNumber>
 where
@@ -71,23 +77,12 @@ where
     text.parse().map_err(|_| NoNumber(what))
 }
 
-// No FromStr: it would have to stand beside Side, in the crate of the records, which knows no words.
-fn side_of(word: &str) -> Result<Side, LineFault>
-    ensures { IfOk result (λ s. word.now ≡ side_word s) }
-{
-    match word {
-        "buy" => Ok(Side::Buy),
-        "sell" => Ok(Side::Sell),
-        _ => Err(LineFault::SideWord),
-    }
-}
-
 fn enter_of(member: &str, side: &str, price: &str, lots: &str) -> Result<Command, LineFault>
     ensures { IfOk result (Enters member.now side.now price.now lots.now) }
 {
     Ok(Command::Enter {
         member: Member(number(member, "member")?),
-        side: side_of(side)?,
+        side: side.parse::<SideWord>()?.0,
         price: Price(number(price, "price")?),
         lots: Lots(number(lots, "number of lots")?),
     })

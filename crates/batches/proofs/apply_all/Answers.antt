@@ -1,7 +1,4 @@
-use Rattle.std.proofs.Common.{length, ap, ◌∙◌, arith}
-use Rattle.std.proofs.lemmas.List.{take_all}
-use Rattle.market.specs.Lists.{over}
-use Rattle.batches.specs.Given.{after_all, given_by}
+use Rattle.std.proofs.Common.{arith}
 use Rattle.batches.proofs.Fronts.{stands_next}
 use Rattle.batches.proofs.apply_all.Goals as goal
 

@@ -10,7 +10,7 @@ impl Layout {
     pub fn new(size: usize) -> Option<Layout>
         ensures { LaidOut size result }
     {
-        if 9 <= size && size <= 4096 {
+        if (9..=4096).contains(&size) {
             Some(Layout { size })
         } else {
             None

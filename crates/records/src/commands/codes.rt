@@ -42,7 +42,7 @@ impl Command {
         }
     }
 
-    // Adds its record to what is written.
+    // Adds its record to what is written. Each arm lays the record out, its length first, as the definition does.
     pub(crate) fn encode_after(&self, out: &mut Record)
         requires { length out.old + 18 ≤ 512 }
         ensures bytes { out.new ≡ out.old ++ encoded self.now }
@@ -106,7 +106,7 @@ fn enter_in(bytes: &[u8]) -> Option<Command>
     })
 }
 
-// The command read from bytes.
+// The command read from bytes. The lengths are the layout's, as the definition names them.
 pub(crate) fn command_in(bytes: &[u8]) -> Option<Command>
     ensures { result ≡ decoded bytes.now }
 {

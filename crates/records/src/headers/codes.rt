@@ -8,7 +8,8 @@ use crate::little_endian::LittleEndian;
 use crate::numbers::{CommandNumber, HouseNumber, LAST_NUMBER, NoticeNumber, PageNumber};
 use crate::sectors::all_zero_from;
 
-// Whether the length, the kind and the two zero bytes are those of a header.
+// Whether the length, the kind and the two zero bytes are those of a header. (No one text with the page's: the lengths are
+// tested in two ways, and what is left is two comparisons.)
 fn is_laid_out(sector: &[u8; 512]) -> bool
     ensures { result ≡ header_laid_out sector.now }
 {

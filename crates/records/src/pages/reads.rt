@@ -43,14 +43,15 @@ fn commands_in(bytes: &[u8], count: u16) -> Option<Batch>
     rest.is_empty().then_some(commands)
 }
 
-// Whether the length, the kind and the two zero bytes are those of a page.
+// Whether the length, the kind and the two zero bytes are those of a page. (No one text with the header's: the lengths are
+// tested in two ways, and what is left is two comparisons.)
 fn is_laid_out(sector: &[u8; 512]) -> bool
     ensures { result ≡ laid_out sector.now }
 {
     let total = u16::take(sector, 0);
     let kind = u16::take(sector, 2);
     let blank = u16::take(sector, 26);
-    28 <= total && total <= 512 && kind == RecordKind::Page as u16 && blank == 0
+    (28..=512).contains(&total) && kind == RecordKind::Page as u16 && blank == 0
 }
 
 // The numbers where a head has them.

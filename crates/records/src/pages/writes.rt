@@ -10,7 +10,7 @@ use crate::commands::Command;
 use crate::kinds::RecordKind;
 use crate::numbers::LAST_NUMBER;
 
-// How many bytes the record of a command has.
+// How many bytes the record of a command has: the lengths are the layout's.
 pub(crate) fn record_size(command: &Command) -> u16
     ensures value { result ≡ length (encoded command.now) }
     ensures bound { result ≤ 18 }
@@ -23,17 +23,12 @@ pub(crate) fn record_size(command: &Command) -> u16
 }
 
 // How many bytes the records of `commands` have together.
-// A loop: it grows as the joined records do, which a `sum` of the sizes would first have to be shown to equal.
 fn total_size(commands: &[Command]) -> u16
     requires { length commands.now ≤ 16 }
     ensures value { result ≡ length (flat_map encoded commands.now) }
     ensures bound { result ≤ 18 * length commands.now }
 {
-    let mut total = 0;
-    for command in commands {
-        total += record_size(command);
-    }
-    total
+    commands.iter().map(record_size).sum()
 }
 
 // Whether each command is good.
@@ -50,8 +45,7 @@ impl PageHead {
     {
         1 <= self.number.0
             && 1 <= self.first.0
-            && 1 <= count
-            && count <= MOST_COMMANDS
+            && (1..=MOST_COMMANDS).contains(&count)
             && self.first.0 <= LAST_NUMBER + 1 - count as u64
     }
 

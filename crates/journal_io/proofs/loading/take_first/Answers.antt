@@ -1,24 +1,17 @@
-use Rattle.std.proofs.Common.{◌∙◌}
 use Rattle.protocol.specs.Worlds.{rules_of}
 use Rattle.journal_io.proofs.Openings.{takes, takes_not}
 use Rattle.journal_io.proofs.loading.take_first.Goals as goal
 
-pub returns-in_err-load_body : goal.returns-in_err-load_body
-returns-in_err-load_body g c =
+pub returns-in_err-load_body-clause-did : goal.returns-in_err-load_body-clause-did
+returns-in_err-load_body-clause-did g c =
     let m = g.D.Device.meaning in
     let d = c.in_ok-first.ensures in
     let e = c.in_err-load_body.ensures in
-    record {
-      did = takes_not c.args.house (rules_of g.M.Market) (m c.args.device.now) (m c.choose_header.new.device) (m c.load_body.new.device) (g.M.Market.means c.load_body.new.market) c.in_ok-first.first (g.D.Device.lawful c.args.device.now) d.did _ c.from_residual-in_err-load_body.result (e.did c.args.house) c.from_residual-in_err-load_body.ensures.1;
-      kept = e.kept ∙ d.kept;
-    }
+    takes_not c.args.house (rules_of g.M.Market) (m c.args.device.now) (m c.choose_header.new.device) (m c.load_body.new.device) (g.M.Market.means c.load_body.new.market) c.in_ok-first.first (g.D.Device.lawful c.args.device.now) d.did _ c.from_residual-in_err-load_body.result (e.did c.args.house) c.from_residual-in_err-load_body.ensures.1
 
-pub returns : goal.returns
-returns g c =
+pub returns-clause-did : goal.returns-clause-did
+returns-clause-did g c =
     let m = g.D.Device.meaning in
     let d = c.in_ok-first.ensures in
     let e = c.in_ok-load_body.ensures in
-    record {
-      did = takes c.args.house (rules_of g.M.Market) (m c.args.device.now) (m c.choose_header.new.device) (m c.load_body.new.device) (g.M.Market.means c.load_body.new.market) c.in_ok-first.first (g.D.Device.lawful c.args.device.now) d.did (e.did c.args.house);
-      kept = e.kept ∙ d.kept;
-    }
+    takes c.args.house (rules_of g.M.Market) (m c.args.device.now) (m c.choose_header.new.device) (m c.load_body.new.device) (g.M.Market.means c.load_body.new.market) c.in_ok-first.first (g.D.Device.lawful c.args.device.now) d.did (e.did c.args.house)

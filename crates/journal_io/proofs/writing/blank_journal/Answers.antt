@@ -3,15 +3,12 @@ use Rattle.protocol.specs.Worlds.{blank}
 use Rattle.journal_io.proofs.Rows.{blanks_more, blanks_cut_by}
 use Rattle.journal_io.proofs.writing.blank_journal.Goals as goal
 
-pub returns-in_err-perform : goal.returns-in_err-perform
+pub returns-in_err-perform-clause-did : goal.returns-in_err-perform-clause-did
 unfolding blank
-returns-in_err-perform g c =
+returns-in_err-perform-clause-did g c =
     let m = g.D.Device.meaning in
     let e = c.in_err-perform.ensures in
-    record {
-      did = blanks_cut_by 8 c.loop-i.i c.args.journal (m c.args.device.now) (m c.loop-i.device) (m c.perform.new.device) _ c.from_residual.result (search rules) c.loop-i.invariant.0 e.did c.from_residual.ensures.1;
-      kept = e.kept ∙ c.loop-i.invariant.1;
-    }
+    blanks_cut_by 8 c.loop-i.i c.args.journal (m c.args.device.now) (m c.loop-i.device) (m c.perform.new.device) _ c.from_residual.result (search rules) c.loop-i.invariant.0 e.did c.from_residual.ensures.1
 
 pub loop-i-preserved : goal.loop-i-preserved
 unfolding blank

@@ -1,6 +1,6 @@
 use Rattle.protocol.specs.Worlds.{blank}
 use Rattle.journal_io.proofs.writing.clear_headers.Goals as goal
 
-pub returns : goal.returns
+pub returns-clause-did : goal.returns-clause-did
 unfolding blank
-returns g c = record { did = c.perform_all.ensures.did; kept = c.perform_all.ensures.kept }
+returns-clause-did g c = c.perform_all.ensures.did

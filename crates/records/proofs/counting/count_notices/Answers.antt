@@ -1,5 +1,5 @@
 use Rattle.std.proofs.Common.{rules}
-use Rattle.records.proofs.Countings.{counting_more, counting_all}
+use Rattle.records.proofs.Countings.{counting_more}
 use Rattle.records.proofs.counting.count_notices.Goals as goal
 
 pub loop-i-preserved : goal.loop-i-preserved

@@ -1,10 +1,8 @@
-use Rattle.std.proofs.Common.{◌≡◌, length, None, vec_items, vec_len, sym, refl, ap, ◌∙◌, subst}
+use Rattle.std.proofs.Common.{◌≡◌, vec_items, sym, ap, ◌∙◌, subst}
 use Rattle.protocol.specs.Steps.{Deliver}
 use Rattle.exchange.specs.Views.{Called}
-use Rattle.runner.specs.Tokens.{held}
 use Rattle.runner.specs.Playing.{delivers, with_receipt}
-use Rattle.runner.proofs.Places.{gone_same}
-use Rattle.runner.proofs.Tokening.{back_or_gone, taken_leaves}
+use Rattle.runner.proofs.Tokening.{back_or_gone}
 use Rattle.runner.proofs.acts.act_deliver.Goals as goal
 
 pub returns : goal.returns

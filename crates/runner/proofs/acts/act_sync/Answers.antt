@@ -1,11 +1,9 @@
-use Rattle.std.proofs.Common.{◌≡◌, length, None, vec_items, vec_len, sym, refl, ap, ◌∙◌, subst₂, rules}
+use Rattle.std.proofs.Common.{◌≡◌, vec_items, vec_len, sym, ap, ◌∙◌, subst₂, rules}
 use Rattle.protocol.specs.Steps.{Sync}
 use Rattle.exchange.specs.Views.{Called}
 use Rattle.runner.specs.Events.{sync_answer}
-use Rattle.runner.specs.Tokens.{held}
 use Rattle.runner.specs.Playing.{syncs, with_ticket}
-use Rattle.runner.proofs.Places.{gone_same}
-use Rattle.runner.proofs.Tokening.{back_or_gone, taken_leaves}
+use Rattle.runner.proofs.Tokening.{back_or_gone}
 use Rattle.runner.proofs.acts.act_sync.Goals as goal
 
 pub returns : goal.returns
@@ -22,4 +20,5 @@ returns g c =
         ap (λ t. syncs t c.args.room) number ∙ ap (λ o. with_ticket o c.args.room) e.taken,
         (λ i. record { tickets = tickets i; receipts = s.receipts i }),
       );
+      left = tt;
     }

@@ -23,17 +23,17 @@ returns-in_err-way g c =
     }
 
 -- what was read, by the sector and the head that the rules name
-pub returns-in-Some : goal.returns-in-Some
-returns-in-Some g c =
+pub returns-in-Ok-Some : goal.returns-in-Ok-Some
+returns-in-Ok-Some g c =
     let x = view g.M.Market g.D.Device c.args.self.now in
     let w = world_of (rules_of g.M.Market) x in
-    let cs = held c.in-Some.page.commands in
+    let cs = held c.in-Ok-Some.page.commands in
     let place : c.page_sector-sector.result ≡ next_sector w x = c.page_sector-sector.ensures.place ∙ (λ i. page_place (c.in_ok-way.ensures.allowed.3 i) (c.next_head-head.ensures i).number.0) in
     let n = g.D.Device.meaning c.read_page.new.device in
     let head = page_head w (suc x.pages) (suc x.commands) in
-    let e = c.in-Ok.ensures in
+    let e = c.in-Ok-Some.ensures in
     let f : There x.device (next_sector w x) head cs n =
-    subst (λ o. PageFound x.device (next_sector w x) head (Ok o) n) c.in-Some.is (subst₂ (λ s h. PageFound x.device s h (Ok c.in-Ok.found) n) place c.next_head-head.ensures e.did) in
+    subst (λ o. PageFound x.device (next_sector w x) head (Ok o) n) c.in-Ok-Some.field-0-is (subst₂ (λ s h. PageFound x.device s h (Ok c.in-Ok-Some.field-0) n) place c.next_head-head.ensures e.did) in
     let slice : c.as_slice.result.now ≡ cs = c.as_slice.ensures.value in
     let a = c.apply_read.ensures.applied in
     let vs = given w x.market cs in

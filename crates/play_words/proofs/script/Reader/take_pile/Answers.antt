@@ -3,5 +3,5 @@ use Rattle.play_words.proofs.script.Reader.take_pile.Goals as goal
 
 pub returns : goal.returns
 returns c =
-    let e : c.args.self.now.pile ≡ None = search rules in
-    (_, c.in_ok-pile_of.ensures, e, refl, refl, refl, refl, refl)
+    let e : c.in-Setup.pile ≡ None = search rules in
+    rw c.in-Setup.is (_, c.in_ok-pile_of.ensures, e, refl)

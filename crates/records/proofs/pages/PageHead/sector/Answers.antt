@@ -1,7 +1,6 @@
 use Rattle.std.proofs.Common.{rules}
 use Rattle.std.proofs.lemmas.List.{take_all}
 use Rattle.records.specs.Pages.{page_sector_bytes}
-use Rattle.records.proofs.PageLaws.{joined_turn}
 use Rattle.records.proofs.pages.PageHead.sector.Goals as goal
 
 pub returns : goal.returns
