@@ -23,11 +23,17 @@ pub fn figures_stand() -> Record
 mod tests {
     use book::shape::Book;
     use call::shape::CallAuction;
+    use drives::{Direct, Drive};
+    use exchange::state::Exchange;
     use journal::layouts::Layout;
     use market::interface::Market;
     use records::commands::{Command, Side};
     use records::notices::{Kind, Notice};
-    use records::numbers::{CommandNumber, Lots, Member, PageNumber, Price};
+    use records::numbers::{CommandNumber, HouseNumber, Lots, Member, PageNumber, Price};
+    use records::refusals::Refusal;
+    use runner::log::Entry;
+    use runner::running::run_script;
+    use runner::script::Call;
     use std::test::Fail;
 
     fn enter(member: u32, side: Side, price: u32, lots: u32) -> Command {
@@ -126,6 +132,71 @@ mod tests {
         };
         assert_eq!(rt; n, 0);
         assert_eq!(rt; book.buys().len(), 1);
+        Ok(())
+    }
+
+    // A book of house 7 on a direct drive over these bytes.
+    fn over<'a>(rt: &HostRuntime, image: &'a mut [u8]) -> Result<Exchange<Book, Direct<'a>>, Fail> {
+        Ok(Exchange::new(rt.alloc(), HouseNumber(7), Drive::direct(image))?)
+    }
+
+    #[test]
+    fn an_exchange_wants_nine_sectors(rt: HostRuntime) -> Result<(), Fail> {
+        let mut eight = [0; 8 * 513];
+        let Err(fault) = over(&rt, &mut eight)?.set_up() else {
+            return Err(Fail::new("8 sectors are taken"));
+        };
+        assert!(rt; fault.reason == Refusal::DeviceSize);
+        let mut nine = [0; 9 * 513];
+        assert!(rt; over(&rt, &mut nine)?.set_up().is_ok());
+        Ok(())
+    }
+
+    #[test]
+    fn an_exchange_stages_good_prices(rt: HostRuntime) -> Result<(), Fail> {
+        let mut image = [0; 9 * 513];
+        let mut exchange = over(&rt, &mut image)?;
+        assert!(rt; exchange.set_up().is_ok());
+        let high = enter(1, Side::Buy, 1_000_000, 1).encode();
+        assert!(rt; exchange.stage(high.as_bytes()).is_ok());
+        for price in [0, 1_000_001] {
+            let bad = enter(1, Side::Buy, price, 1).encode();
+            let Err(fault) = exchange.stage(bad.as_bytes()) else {
+                return Err(Fail::new("a bad price is staged"));
+            };
+            assert!(rt; fault.reason == Refusal::NotACommand);
+        }
+        Ok(())
+    }
+
+    #[test]
+    fn a_snapshot_frees_the_journal(rt: HostRuntime) -> Result<(), Fail> {
+        let heap = rt.alloc();
+        let mut image = [0; 9 * 513];
+        let mut exchange = over(&rt, &mut image)?;
+        let script = [
+            Call::Stage([4, 0, 13, 0].to_vec(heap)?),
+            Call::Write,
+            Call::Sync {
+                ticket: 1,
+                room: 64,
+            },
+            Call::Stage([4, 0, 13, 0].to_vec(heap)?),
+            Call::Write,
+            Call::Snapshot,
+            Call::Write,
+        ];
+        let Ok(run) = run_script(heap, &mut exchange, &script) else {
+            return Err(Fail::new("the script is not run"));
+        };
+        let Entry::Write(Err(full)) = &run.log[4] else {
+            return Err(Fail::new("the second page is written over the first"));
+        };
+        assert!(rt; full.reason == Refusal::JournalFull);
+        let Entry::Write(Ok(ticket)) = &run.log[6] else {
+            return Err(Fail::new("the second page is refused after a snapshot"));
+        };
+        assert_eq!(rt; ticket.page.0, 2);
         Ok(())
     }
 }
