@@ -1,6 +1,9 @@
 //! Lines of standard input, handed on as commands.
-ghost use Rattle.std.specs.Prelude.{◌<◌, length, IfOk};
+ghost use Rattle.std.specs.Prelude.{◌≡◌, ◌<◌, ◌⊎◌, [], length, Ok, IfOk, OnOk};
 ghost use Rattle.std.specs.List.{All};
+ghost use Rattle.std.specs.Fn.{FnOnceReturnsAt};
+ghost use Rattle.console.specs.Inputs.{held};
+ghost use Rattle.jobs.specs.Lines.{Wordless};
 
 use crate::faults::JobFault;
 use console::input::LineBuffer;
@@ -89,7 +92,8 @@ pub fn each_line<
 
 /// The words of a line: none where it is blank or begins with #.
 pub fn words_of(heap: Global, line: &str) -> Result<Vec<&str>, AllocError>
-    ensures { IfOk result (λ words. All (λ word. 0 < length word.now) words.items) }
+    ensures words { IfOk result (λ words. All (λ word. 0 < length word.now) words.items) }
+    ensures none { IfOk result (λ words. words.items ≡ [] → Wordless line.now) }
 {
     let line = line.trim();
     if line.starts_with('#') {
@@ -105,6 +109,7 @@ pub fn take_words<E: From<LineFault> + From<AllocError>, F: FnOnce(&[&str]) -> R
     take: F,
 ) -> Result<(), E>
     requires { F.IsAlwaysCallable take }
+    ensures { OnOk result (Wordless (held line.now) ⊎ ((words : _) × All (λ word. 0 < length word.now) words × FnOnceReturnsAt F.FnOnce take words (Ok tt))) }
 {
     let words = words_of(heap, line.text()?)?;
     if words.is_empty() {

@@ -1,6 +1,8 @@
 //! Why a line of a script is refused.
 ghost use Rattle.std.specs.Prelude.{◌≡◌};
+ghost use Rattle.hex.specs.declared.error.FromHexError.TheVariants as hex;
 ghost use Rattle.play_words.specs.declared.faults.PlayFault.TheVariants.{Number};
+ghost use Rattle.play_words.specs.declared.faults.PlayFault.TheVariants as fault;
 
 use hex::FromHexError;
 use pile_words::PileFault;
@@ -87,6 +89,8 @@ impl From<NoNumber> for PlayFault {
 }
 
 impl From<FromHexError> for PlayFault {
+    ghost from_gives = { λ e f. (e ≡ hex.OutOfMemory → f ≡ fault.NoMemory) × ((e ≡ hex.OutOfMemory → ⊥) → f ≡ fault.Hex) };
+
     fn from(fault: FromHexError) -> PlayFault {
         match fault {
             FromHexError::OutOfMemory => PlayFault::NoMemory,

@@ -7,6 +7,7 @@
 ghost use Rattle.std.specs.Prelude.{◌≡◌, map, IfOk};
 ghost use Rattle.words.specs.Spellings.{Enters, Cancels, Spells};
 ghost use Rattle.words.specs.declared.LineFault.TheVariants.{Number};
+ghost use Rattle.words.specs.declared.LineFault.TheVariants as line;
 
 use records::commands::Command;
 use records::numbers::{CommandNumber, Lots, Member, Price};
@@ -63,6 +64,8 @@ impl From<NoNumber> for LineFault {
 }
 
 impl From<NoSide> for LineFault {
+    ghost from_gives = { λ _ f. f ≡ line.SideWord };
+
     fn from(_e: NoSide) -> LineFault {
         LineFault::SideWord
     }
