@@ -1,0 +1,10 @@
+pub mod Membership
+pub mod Openings
+pub mod Deliveries
+pub mod Pages
+pub mod Entries
+pub mod Told
+pub mod Verdicts
+pub mod Growth
+pub mod Promising
+pub mod Reading
