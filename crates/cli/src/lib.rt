@@ -5,8 +5,10 @@
 #![tactic(auto)]
 
 ghost use Rattle.std.specs.Prelude.{◌≡◌};
-ghost use Rattle.cli.specs.declared.Fault.TheVariants.{NoNumber};
+ghost use Rattle.cli.specs.declared.Fault.TheVariants.{Drill, NoNumber};
 
+use drills::drilling::{Options, drill_script};
+use drills::faults::DrillFault;
 use jobs::faults::JobFault;
 use jobs::matching::{MarketKind, match_orders};
 use jobs::paging::page_orders;
@@ -20,6 +22,8 @@ const USAGE: &str =
     "usage: hammerbuff match [--market book|call]  match the commands of standard input in a book (or a call)
        hammerbuff page --sectors N            write them as pages over a ring of N sectors, and read them back
        hammerbuff play                        run the script of standard input on an exchange, and print each answer
+       hammerbuff drill SCRIPT [--plans N] [--pile PILE]
+                                              cut the power at every call of a script, and check the promises
        hammerbuff --help                      print this page
 
 One command a line:
@@ -37,13 +41,21 @@ A script says what is set up, and then calls the exchange, a line each:
 Tickets and receipts are numbered from 1 as they are answered; LENGTH is that of the list lent for
 notices, 1024 if left out. A PILE is direct N, writeback N, offset BASE PILE or mirror PILE PILE, with
 N sectors, and after N perhaps cuts COUNT:PLAN,COUNT:PLAN,.. A script with a line that cannot be read
-is not run.";
+is not run.
 
-enum Job {
+A drill makes the cuts itself, so its PILE has none; --pile takes the place of the script's device and ends the line.
+--plans is how many ways are tried at one cut in which the writes that wait are dropped, kept or torn, 64 if left out.
+It ends with status 1 where a promise was broken.";
+
+// How many plans are tried at one cut where the words do not say.
+const PLANS: u32 = 64;
+
+enum Job<'w> {
     Help,
     Match { market: MarketKind },
     Page { sectors: usize },
     Play,
+    Drill(Options<'w>),
 }
 
 /// What is wrong with the arguments, or what stopped the job.
@@ -52,7 +64,14 @@ pub enum Fault {
     NoJob,
     UnknownWord(String),
     NoNumber(&'static str),
+    /// A drill without a script.
+    NoScript,
+    /// A drill of no plans.
+    NoPlans,
     Stopped(JobFault),
+    Drill(DrillFault),
+    /// A drill broke a promise.
+    Broken,
 }
 
 impl fmt::Display for Fault {
@@ -61,7 +80,11 @@ impl fmt::Display for Fault {
             Fault::NoJob => write!(f, "say what to do\n{USAGE}"),
             Fault::UnknownWord(word) => write!(f, "{word} is not known\n{USAGE}"),
             Fault::NoNumber(option) => write!(f, "{option} needs a number\n{USAGE}"),
+            Fault::NoScript => write!(f, "drill needs the name of a script\n{USAGE}"),
+            Fault::NoPlans => write!(f, "at least one plan is tried at each cut"),
             Fault::Stopped(fault) => write!(f, "{fault}"),
+            Fault::Drill(fault) => write!(f, "{fault}"),
+            Fault::Broken => write!(f, "a promise was broken"),
         }
     }
 }
@@ -69,6 +92,14 @@ impl fmt::Display for Fault {
 impl From<JobFault> for Fault {
     fn from(fault: JobFault) -> Fault {
         Fault::Stopped(fault)
+    }
+}
+
+impl From<DrillFault> for Fault {
+    ghost from_gives = { λ e f. f ≡ Drill e };
+
+    fn from(fault: DrillFault) -> Fault {
+        Fault::Drill(fault)
     }
 }
 
@@ -92,12 +123,12 @@ impl From<AllocError> for Fault {
     }
 }
 
-fn unknown(heap: Global, word: &str) -> Result<Job, Fault> {
+fn unknown<T>(heap: Global, word: &str) -> Result<T, Fault> {
     Err(Fault::UnknownWord(String::from_str(heap, word)?))
 }
 
 // The words after `match`.
-fn match_job(heap: Global, options: &[&str]) -> Result<Job, Fault> {
+fn match_job(heap: Global, options: &[&str]) -> Result<Job<'static>, Fault> {
     match options {
         [] => Ok(Job::Match {
             market: MarketKind::Book,
@@ -111,7 +142,7 @@ fn match_job(heap: Global, options: &[&str]) -> Result<Job, Fault> {
 }
 
 // The words after `page`.
-fn page_job(heap: Global, options: &[&str]) -> Result<Job, Fault> {
+fn page_job(heap: Global, options: &[&str]) -> Result<Job<'static>, Fault> {
     match options {
         ["--sectors", value] => Ok(Job::Page {
             sectors: number(value, "--sectors")?,
@@ -121,8 +152,34 @@ fn page_job(heap: Global, options: &[&str]) -> Result<Job, Fault> {
     }
 }
 
+fn plans_of(word: &str) -> Result<u32, Fault> {
+    match number(word, "--plans")? {
+        0 => Err(Fault::NoPlans),
+        plans => Ok(plans),
+    }
+}
+
+// The words after `drill` and the script's name.
+fn drill_job<'w>(heap: Global, script: &'w str, words: &'w [&'w str]) -> Result<Job<'w>, Fault> {
+    let (plans, words) = match words {
+        ["--plans", value, rest @ ..] => (plans_of(value)?, rest),
+        ["--plans"] => return Err(Fault::NoNumber("--plans")),
+        _ => (PLANS, words),
+    };
+    let pile = match words {
+        [] => None,
+        ["--pile", pile @ ..] => Some(pile),
+        [word, ..] => return unknown(heap, word),
+    };
+    Ok(Job::Drill(Options {
+        script,
+        plans,
+        pile,
+    }))
+}
+
 // The job that the words after the program's name ask for.
-fn job_of(heap: Global, words: &[&str]) -> Result<Job, Fault> {
+fn job_of<'w>(heap: Global, words: &'w [&'w str]) -> Result<Job<'w>, Fault> {
     match words {
         [] => Err(Fault::NoJob),
         ["--help", ..] | [_, "--help", ..] => Ok(Job::Help),
@@ -130,7 +187,17 @@ fn job_of(heap: Global, words: &[&str]) -> Result<Job, Fault> {
         ["page", options @ ..] => page_job(heap, options),
         ["play"] => Ok(Job::Play),
         ["play", word, ..] => unknown(heap, word),
+        ["drill"] => Err(Fault::NoScript),
+        ["drill", script, options @ ..] => drill_job(heap, script, options),
         [word, ..] => unknown(heap, word),
+    }
+}
+
+fn run_drill(rt: &HostRuntime, options: Options) -> Result<(), Fault> {
+    if drill_script(rt, options)? {
+        Ok(())
+    } else {
+        Err(Fault::Broken)
     }
 }
 
@@ -143,6 +210,7 @@ fn run(rt: &HostRuntime) -> Result<(), Fault> {
         Job::Match { market } => match_orders(rt, market)?,
         Job::Page { sectors } => page_orders(rt, sectors)?,
         Job::Play => play_script(rt)?,
+        Job::Drill(options) => run_drill(rt, options)?,
     }
     Ok(())
 }

@@ -1,4 +1,4 @@
-//! Lines of standard input, handed on as commands.
+//! Lines of an input, handed on as commands.
 ghost use Rattle.std.specs.Prelude.{◌≡◌, ◌<◌, ◌⊎◌, [], length, Ok, IfOk, OnOk};
 ghost use Rattle.std.specs.List.{All};
 ghost use Rattle.std.specs.Fn.{FnOnceReturnsAt};
@@ -64,17 +64,18 @@ pub(crate) fn range_fault(command: &Command) -> LineFault {
     }
 }
 
-/// Hands each line of standard input on under its number, and answers how many newlines came. A loop over bytes: a line has
+/// Hands each line of the input on under its number, and answers how many newlines came. A loop over bytes: a line has
 /// fixed memory and need not be UTF-8, where `lines` of a BufReader would allocate each line and answer a fault of input.
 pub fn each_line<
+    I: Read + Drop,
     E: From<io::Error> + From<AllocError>,
     F: FnMut(u64, &LineBuffer) -> Result<(), E>,
->(rt: &HostRuntime, mut take: F) -> Result<u64, E>
+>(heap: Global, input: I, mut take: F) -> Result<u64, E>
     requires { F.IsAlwaysCallable take }
 {
     let mut buffer = LineBuffer::new();
     let mut line: u64 = 0;
-    for byte in BufReader::new(rt.alloc(), rt.stdin())?.bytes() {
+    for byte in BufReader::new(heap, input)?.bytes() {
         let byte = byte?;
         if byte != b'\n' {
             buffer.push(byte);
@@ -128,15 +129,19 @@ fn take_line<T: Taker>(rt: &HostRuntime, taker: &mut T, line: &LineBuffer) -> Re
 // Takes the commands of the whole input; how many lines were refused. The closure counts what it refuses: nothing enumerates that.
 pub(crate) fn take_lines<T: Taker>(rt: &HostRuntime, taker: &mut T) -> Result<u64, JobFault> {
     let mut refused: u64 = 0;
-    each_line(rt, |line, buffer| match take_line(rt, taker, buffer) {
-        Ok(()) => Ok(()),
-        Err(NotTaken::Refused(reason, fault)) => {
-            refused = refused.saturating_add(1);
-            let reason = reason.number();
-            println!(rt; "line {line} refused {reason}: {fault}")?;
-            Ok(())
-        }
-        Err(NotTaken::Stopped(fault)) => Err(fault),
-    })?;
+    each_line(
+        rt.alloc(),
+        rt.stdin(),
+        |line, buffer| match take_line(rt, taker, buffer) {
+            Ok(()) => Ok(()),
+            Err(NotTaken::Refused(reason, fault)) => {
+                refused = refused.saturating_add(1);
+                let reason = reason.number();
+                println!(rt; "line {line} refused {reason}: {fault}")?;
+                Ok(())
+            }
+            Err(NotTaken::Stopped(fault)) => Err(fault),
+        },
+    )?;
     Ok(refused)
 }

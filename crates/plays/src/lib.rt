@@ -9,4 +9,4 @@
 mod answers;
 pub mod lines;
 pub mod playing;
-mod reading;
+pub mod reading;

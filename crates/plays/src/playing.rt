@@ -83,7 +83,7 @@ fn on_images<'a, R: Rules, E: From<io::Error> + From<AllocError>>(
 // The market is chosen once, from a word: what follows is one generic function.
 /// Runs the script of standard input. A line that cannot be read ends the job before anything is run.
 pub fn play_script(rt: &HostRuntime) -> Result<(), JobFault> {
-    let script = read_script(rt)?;
+    let script = read_script(rt.alloc(), rt.stdin())?;
     let mut first = Vec::from_elem(rt.alloc(), 0, script.pile.first_bytes())?;
     let mut second = Vec::from_elem(rt.alloc(), 0, script.pile.second_bytes())?;
     match script.market {

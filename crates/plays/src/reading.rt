@@ -1,19 +1,19 @@
-//! A script from standard input.
+//! A script from an input.
 use jobs::faults::JobFault;
 use jobs::reading::{each_line, take_words};
 use play_words::faults::{PlayFault, ScriptFault};
 use play_words::script::{Reader, Script};
 use std::alloc::Global;
+use std::io::Read;
 
 fn at_line<T>(line: u64, done: Result<T, PlayFault>) -> Result<T, JobFault> {
     done.map_err(|why| JobFault::Script(ScriptFault { line, why }))
 }
 
 /// Reads the whole script.
-pub(crate) fn read_script(rt: &HostRuntime) -> Result<Script, JobFault> {
-    let heap = rt.alloc();
+pub fn read_script<I: Read + Drop>(heap: Global, input: I) -> Result<Script, JobFault> {
     let mut reader = Reader::new();
-    let newlines = each_line(rt, |line, buffer| {
+    let newlines = each_line(heap, input, |line, buffer| {
         at_line(
             line,
             take_words(heap, buffer, |words| reader.take(heap, words)),
