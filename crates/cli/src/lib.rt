@@ -5,14 +5,18 @@
 #![tactic(auto)]
 
 ghost use Rattle.std.specs.Prelude.{◌≡◌};
-ghost use Rattle.cli.specs.declared.Fault.TheVariants.{Drill, NoNumber};
+ghost use Rattle.cli.specs.declared.Fault.TheVariants.{Drill, Hall, NoNumber};
 
 use drills::drilling::{Options, drill_script};
 use drills::faults::DrillFault;
+use halls::faults::HallFault;
+use halls::setting::{Setting, set_up_file};
+use halls::showing::show_file;
 use jobs::faults::JobFault;
 use jobs::matching::{MarketKind, match_orders};
 use jobs::paging::page_orders;
 use plays::playing::play_script;
+use records::numbers::HouseNumber;
 use std::alloc::{AllocError, Global};
 use std::process::ExitCode;
 use std::{env, fmt, io};
@@ -24,6 +28,9 @@ const USAGE: &str =
        hammerbuff play                        run the script of standard input on an exchange, and print each answer
        hammerbuff drill SCRIPT [--plans N] [--pile PILE]
                                               cut the power at every call of a script, and check the promises
+       hammerbuff setup FILE --house H --market book|call --sectors N [--force]
+                                              set an exchange up on a file of N sectors
+       hammerbuff show FILE                   print what such a file holds: its snapshots, and its journal
        hammerbuff --help                      print this page
 
 One command a line:
@@ -45,7 +52,9 @@ is not run.
 
 A drill makes the cuts itself, so its PILE has none; --pile takes the place of the script's device and ends the line.
 --plans is how many ways are tried at one cut in which the writes that wait are dropped, kept or torn, 64 if left out.
-It ends with status 1 where a promise was broken.";
+It ends with status 1 where a promise was broken.
+
+A file has 512 bytes a sector, and 9 to 4096 sectors. One that is there is overwritten with --force alone.";
 
 // How many plans are tried at one cut where the words do not say.
 const PLANS: u32 = 64;
@@ -56,6 +65,8 @@ enum Job<'w> {
     Page { sectors: usize },
     Play,
     Drill(Options<'w>),
+    SetUp(Setting<'w>),
+    Show { file: &'w str },
 }
 
 /// What is wrong with the arguments, or what stopped the job.
@@ -70,6 +81,11 @@ pub enum Fault {
     NoPlans,
     Stopped(JobFault),
     Drill(DrillFault),
+    /// The words after `setup` are not the ones it needs.
+    SetUpWords,
+    /// Nothing to show.
+    NoFile,
+    Hall(HallFault),
     /// A drill broke a promise.
     Broken,
 }
@@ -84,6 +100,12 @@ impl fmt::Display for Fault {
             Fault::NoPlans => write!(f, "at least one plan is tried at each cut"),
             Fault::Stopped(fault) => write!(f, "{fault}"),
             Fault::Drill(fault) => write!(f, "{fault}"),
+            Fault::SetUpWords => write!(
+                f,
+                "setup needs FILE --house H --market book|call --sectors N\n{USAGE}"
+            ),
+            Fault::NoFile => write!(f, "show needs the name of a file\n{USAGE}"),
+            Fault::Hall(fault) => write!(f, "{fault}"),
             Fault::Broken => write!(f, "a promise was broken"),
         }
     }
@@ -100,6 +122,14 @@ impl From<DrillFault> for Fault {
 
     fn from(fault: DrillFault) -> Fault {
         Fault::Drill(fault)
+    }
+}
+
+impl From<HallFault> for Fault {
+    ghost from_gives = { λ e f. f ≡ Hall e };
+
+    fn from(fault: HallFault) -> Fault {
+        Fault::Hall(fault)
     }
 }
 
@@ -127,16 +157,23 @@ fn unknown<T>(heap: Global, word: &str) -> Result<T, Fault> {
     Err(Fault::UnknownWord(String::from_str(heap, word)?))
 }
 
+// The market of this name.
+fn market_named(heap: Global, name: &str) -> Result<MarketKind, Fault> {
+    match name.parse() {
+        Ok(market) => Ok(market),
+        Err(_) => unknown(heap, name),
+    }
+}
+
 // The words after `match`.
 fn match_job(heap: Global, options: &[&str]) -> Result<Job<'static>, Fault> {
     match options {
         [] => Ok(Job::Match {
             market: MarketKind::Book,
         }),
-        ["--market", name] => match name.parse() {
-            Ok(market) => Ok(Job::Match { market }),
-            Err(_) => unknown(heap, name),
-        },
+        ["--market", name] => Ok(Job::Match {
+            market: market_named(heap, name)?,
+        }),
         [word, ..] => unknown(heap, word),
     }
 }
@@ -178,6 +215,24 @@ fn drill_job<'w>(heap: Global, script: &'w str, words: &'w [&'w str]) -> Result<
     }))
 }
 
+// The words after `setup` and the file's name.
+fn setup_job<'w>(heap: Global, file: &'w str, words: &[&str]) -> Result<Job<'w>, Fault> {
+    let (words, force) = match words {
+        [rest @ .., "--force"] => (rest, true),
+        _ => (words, false),
+    };
+    let ["--house", house, "--market", market, "--sectors", sectors] = words else {
+        return Err(Fault::SetUpWords);
+    };
+    Ok(Job::SetUp(Setting {
+        file,
+        house: HouseNumber(number(house, "--house")?),
+        market: market_named(heap, market)?,
+        sectors: number(sectors, "--sectors")?,
+        force,
+    }))
+}
+
 // The job that the words after the program's name ask for.
 fn job_of<'w>(heap: Global, words: &'w [&'w str]) -> Result<Job<'w>, Fault> {
     match words {
@@ -189,6 +244,11 @@ fn job_of<'w>(heap: Global, words: &'w [&'w str]) -> Result<Job<'w>, Fault> {
         ["play", word, ..] => unknown(heap, word),
         ["drill"] => Err(Fault::NoScript),
         ["drill", script, options @ ..] => drill_job(heap, script, options),
+        ["setup"] => Err(Fault::SetUpWords),
+        ["setup", file, options @ ..] => setup_job(heap, file, options),
+        ["show"] => Err(Fault::NoFile),
+        ["show", file] => Ok(Job::Show { file }),
+        ["show", _, word, ..] => unknown(heap, word),
         [word, ..] => unknown(heap, word),
     }
 }
@@ -211,6 +271,8 @@ fn run(rt: &HostRuntime) -> Result<(), Fault> {
         Job::Page { sectors } => page_orders(rt, sectors)?,
         Job::Play => play_script(rt)?,
         Job::Drill(options) => run_drill(rt, options)?,
+        Job::SetUp(setting) => set_up_file(rt, setting)?,
+        Job::Show { file } => show_file(rt, file)?,
     }
     Ok(())
 }

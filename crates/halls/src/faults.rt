@@ -1,0 +1,69 @@
+//! Why a job on a file ends early.
+ghost use Rattle.std.specs.Prelude.{◌≡◌};
+ghost use Rattle.halls.specs.declared.faults.HallFault.TheVariants.{Io, NoMemory, SetUp};
+
+use plays::lines::RefusalWords;
+use protocol::faults::ExchangeFault;
+use std::alloc::AllocError;
+use std::{fmt, io};
+
+/// Why a job on a file ended early.
+#[derive(Drop)]
+pub enum HallFault {
+    /// The file cannot be opened.
+    File(io::Error),
+    /// There is a file of this name already.
+    Taken,
+    /// The file's length is no image's.
+    NoImage,
+    /// An exchange cannot lie on so many sectors.
+    Sectors,
+    /// The exchange cannot be set up.
+    SetUp(ExchangeFault),
+    NoMemory,
+    Io(io::Error),
+}
+
+impl fmt::Display for HallFault {
+    fn fmt<W: fmt::Write>(&self, f: &mut fmt::Formatter<W>) -> fmt::Result {
+        match self {
+            HallFault::File(e) => write!(f, "the file cannot be opened: {e}"),
+            HallFault::Taken => write!(f, "there is a file of this name: --force overwrites it"),
+            HallFault::NoImage => write!(
+                f,
+                "the file is no image: one has 9 to 4096 sectors of 512 bytes"
+            ),
+            HallFault::Sectors => write!(f, "a device has 9 to 4096 sectors"),
+            HallFault::SetUp(why) => {
+                let why = RefusalWords(*why);
+                write!(f, "the exchange cannot be set up: {why}")
+            }
+            HallFault::NoMemory => write!(f, "there is not enough memory"),
+            HallFault::Io(e) => write!(f, "{e}"),
+        }
+    }
+}
+
+impl From<ExchangeFault> for HallFault {
+    ghost from_gives = { λ e f. f ≡ SetUp e };
+
+    fn from(fault: ExchangeFault) -> HallFault {
+        HallFault::SetUp(fault)
+    }
+}
+
+impl From<io::Error> for HallFault {
+    ghost from_gives = { λ e f. f ≡ Io e };
+
+    fn from(e: io::Error) -> HallFault {
+        HallFault::Io(e)
+    }
+}
+
+impl From<AllocError> for HallFault {
+    ghost from_gives = { λ _ f. f ≡ NoMemory };
+
+    fn from(_e: AllocError) -> HallFault {
+        HallFault::NoMemory
+    }
+}

@@ -1,0 +1,16 @@
+//! The jobs `setup` and `show`: an exchange set up on a file, and what such a file holds.
+//!
+//! Proved: every function is safe and ends, on every input; which lengths are those of an image, and how many sectors they
+//! make; which code is which market's, and its name as it is printed; which sectors are blank; and the slot that an opening
+//! takes is that of the header that stands first in rank, by the text that an exchange opens by.
+//! Only tested: what is read from a file and what is made of it, and what is printed. Trusted: the toolchain and the C
+//! library, and that the file holds what was written (crate `file_device`).
+#![tactic(auto)]
+
+pub mod faults;
+mod journals;
+pub mod markets;
+pub mod setting;
+pub mod showing;
+pub mod sizes;
+mod slots;
