@@ -1,7 +1,7 @@
 //! The image of a file, read into memory.
 ghost use Rattle.std.specs.Prelude.{◌≡◌, length};
 
-use crate::on_file::FILE_SECTOR;
+use crate::calls::FILE_SECTOR;
 use image::sectors::MARKED_SECTOR;
 use std::fs::File;
 use std::os::unix::fs::FileExt;

@@ -4,12 +4,14 @@
 //! place before it is answered, and a sync is answered after the file's own (`fdatasync`). Any error of the file is answered as a
 //! cut, and the device is then dark.
 //!
-//! Proved: it keeps the meaning of a device (crate `device`), that of the drive in its memory. Trusted, and only tested: that the
-//! file holds what was written, and after its sync keeps it; the toolchain and the C library.
+//! Proved: it keeps the meaning of a device (crate `device`), that of the drive in its memory, and where it has noted an error of the
+//! file it is dark. Not proved: that a call reaches the file and notes its error. Trusted: that the file holds what was written,
+//! and after its sync keeps it; the toolchain and the C library.
 #![tactic(auto)]
 
 pub use images::load_image;
 pub use on_file::OnFile;
 
+pub mod calls;
 pub mod images;
 pub mod on_file;

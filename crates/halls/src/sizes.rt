@@ -3,7 +3,7 @@ ghost use Rattle.std.specs.Prelude.{◌≡◌, ◌*◌, false, true, MatchOption
 ghost use Rattle.journal.specs.Places.{size_good};
 ghost use Rattle.halls.specs.Sizes.{NoImage};
 
-use file_device::on_file::FILE_SECTOR;
+use file_device::calls::FILE_SECTOR;
 use image::sectors::MARKED_SECTOR;
 
 /// How many sectors an image has: 9 to 4,096.
