@@ -1,3 +1,4 @@
 pub mod Codes
 pub mod Openings
 pub mod Sizes
+pub mod Stands

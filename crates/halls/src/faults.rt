@@ -10,10 +10,18 @@ use std::{fmt, io};
 /// Why a job on a file ended early.
 #[derive(Drop)]
 pub enum HallFault {
-    /// The file cannot be opened.
-    File(io::Error),
+    /// There is no file of this name.
+    NoFile(String),
+    /// There is no folder for the file of this name.
+    NoFolder(String),
     /// There is a file of this name already.
-    Taken,
+    Taken(String),
+    /// What has this name is a folder or a device, say.
+    NotPlain(String),
+    /// The file of this name cannot be used.
+    File { name: String, error: io::Error },
+    /// Both names of a mirror are those of one file.
+    OneFile,
     /// The file's length is no image's.
     NoImage,
     /// An exchange cannot lie on so many sectors.
@@ -27,8 +35,17 @@ pub enum HallFault {
 impl fmt::Display for HallFault {
     fn fmt<W: fmt::Write>(&self, f: &mut fmt::Formatter<W>) -> fmt::Result {
         match self {
-            HallFault::File(e) => write!(f, "the file cannot be opened: {e}"),
-            HallFault::Taken => write!(f, "there is a file of this name: --force overwrites it"),
+            HallFault::NoFile(name) => write!(f, "there is no file {name}"),
+            HallFault::NoFolder(name) => write!(f, "there is no folder for the file {name}"),
+            HallFault::Taken(name) => write!(
+                f,
+                "there is a file {name} already: --force overwrites it"
+            ),
+            HallFault::NotPlain(name) => write!(f, "{name} is not a plain file"),
+            HallFault::File { name, error } => {
+                write!(f, "the file {name} cannot be used: {error}")
+            }
+            HallFault::OneFile => write!(f, "a mirror needs two files, and both names are of one"),
             HallFault::NoImage => write!(
                 f,
                 "the file is no image: one has 9 to 4096 sectors of 512 bytes"

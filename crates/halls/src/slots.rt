@@ -1,44 +1,30 @@
 //! The snapshots of an image.
-ghost use Rattle.std.specs.Prelude.{◌≡◌};
-ghost use Rattle.records.specs.Sectors.{zeros};
-ghost use Rattle.halls.specs.Openings.{taken_slot};
-
 use crate::faults::HallFault;
 use crate::markets::{MarketWord, market_of};
+use crate::sectors::{TORN, is_blank};
 use book::shape::Continuous;
 use call::shape::Crossing;
-use device::Sector;
+use image::sectors::find;
 use jobs::matching::print_side;
-use journal::choosing::first_header;
 use journal::slots::Slot;
 use market::interface::Market;
 use play_words::script::MarketKind;
 use records::commands::Side;
 use records::headers::Header;
-use records::numbers::{CommandNumber, HouseNumber};
+use records::numbers::CommandNumber;
 use ruled_market::rules::Rules;
 use ruled_market::shape::RestingMarket;
 use std::io;
 
-/// The four sectors of a slot.
-#[derive(Clone, Copy)]
-pub(crate) struct SlotSectors {
-    pub(crate) header: Sector,
-    pub(crate) body: [u8; 1536],
-}
-
-/// Whose a snapshot is.
-#[derive(Clone, Copy, PartialEq, Eq)]
-pub(crate) struct Owner {
-    house: HouseNumber,
-    code: u16,
-}
-
-/// Whether all bytes of a sector are zeros.
-pub(crate) fn is_blank(sector: &Sector) -> bool
-    ensures { result ≡ zeros sector.now }
-{
-    sector.iter().all(|byte| *byte == 0)
+// The body of a slot; none where a sector of it is torn.
+fn read_body(image: &[u8], slot: Slot) -> Option<[u8; 1536]> {
+    let at = slot.body_sector();
+    let mut body = [0; 1536];
+    for i in 0..3 {
+        let part = find(image, at + i)?;
+        body[512 * i..512 * i + 512].copy_from_slice(&part);
+    }
+    Some(body)
 }
 
 // The orders of a body, where it loads in this market and is of the header's last command.
@@ -68,8 +54,8 @@ fn print_body<R: Rules>(
 fn print_snapshot(
     rt: &HostRuntime,
     slot: Slot,
-    body: &[u8; 1536],
     header: &Header,
+    body: Option<[u8; 1536]>,
 ) -> Result<(), HallFault> {
     let (slot, house, page) = (slot as u8, header.house.0, header.page.0);
     let (commands, notices) = (header.commands.0, header.notices.0);
@@ -82,77 +68,31 @@ fn print_snapshot(
         return Ok(());
     };
     println!(rt; ", market {}", MarketWord(kind))?;
-    match kind {
-        MarketKind::Book => print_body::<Continuous>(rt, kind, body, header.commands),
-        MarketKind::Call => print_body::<Crossing>(rt, kind, body, header.commands),
-    }
-}
-
-/// What a slot holds; whose it is, where it has a good header.
-pub(crate) fn print_slot(
-    rt: &HostRuntime,
-    slot: Slot,
-    sectors: &SlotSectors,
-) -> Result<Option<Owner>, HallFault> {
-    let Some(header) = Header::decode(&sectors.header) else {
-        let slot = slot as u8;
-        let why = if is_blank(&sectors.header) {
-            "no header"
-        } else {
-            "not a header"
-        };
-        println!(rt; "slot {slot}: {why}")?;
-        return Ok(None);
-    };
-    print_snapshot(rt, slot, &sectors.body, &header)?;
-    Ok(Some(Owner {
-        house: header.house,
-        code: header.market,
-    }))
-}
-
-// Which slot an exchange of this house, and of the market of these rules, takes as it opens.
-fn taken<R: Rules>(zero: &Sector, one: &Sector, house: HouseNumber) -> Option<Slot>
-    ensures { result ≡ taken_slot house R.CODE zero.now one.now }
-{
-    let chosen = first_header::<RestingMarket<R>>(zero, one, house)?;
-    Some(chosen.first.slot)
-}
-
-// Which slot an opening by this owner takes.
-fn print_choice(rt: &HostRuntime, owner: Owner, zero: &Sector, one: &Sector) -> io::Result<()> {
-    let Some(kind) = market_of(owner.code) else {
+    let Some(body) = body else {
+        println!(rt; "body: {TORN}")?;
         return Ok(());
     };
-    let slot = match kind {
-        MarketKind::Book => taken::<Continuous>(zero, one, owner.house),
-        MarketKind::Call => taken::<Crossing>(zero, one, owner.house),
-    };
-    let (house, name) = (owner.house.0, MarketWord(kind));
-    print!(rt; "an opening of house {house}, market {name}, takes ")?;
-    match slot {
-        Some(slot) => println!(rt; "slot {}", slot as u8)?,
-        None => println!(rt; "no slot")?,
+    match kind {
+        MarketKind::Book => print_body::<Continuous>(rt, kind, &body, header.commands),
+        MarketKind::Call => print_body::<Crossing>(rt, kind, &body, header.commands),
     }
+}
+
+// A slot without a good header.
+fn print_none(rt: &HostRuntime, slot: Slot, why: &str) -> io::Result<()> {
+    let slot = slot as u8;
+    println!(rt; "slot {slot}: {why}")?;
     Ok(())
 }
 
-/// Which slot an opening takes, by each owner that a slot has.
-pub(crate) fn print_choices(
-    rt: &HostRuntime,
-    owners: (Option<Owner>, Option<Owner>),
-    zero: &Sector,
-    one: &Sector,
-) -> io::Result<()> {
-    match owners {
-        (Some(x), Some(y)) if x != y => {
-            print_choice(rt, x, zero, one)?;
-            print_choice(rt, y, zero, one)
-        }
-        (Some(x), _) | (None, Some(x)) => print_choice(rt, x, zero, one),
-        (None, None) => {
-            println!(rt; "an opening takes no slot")?;
-            Ok(())
-        }
+/// What a slot holds.
+pub(crate) fn print_slot(rt: &HostRuntime, image: &[u8], slot: Slot) -> Result<(), HallFault> {
+    let Some(sector) = find(image, slot.header_sector()) else {
+        return Ok(print_none(rt, slot, TORN)?);
+    };
+    match Header::decode(&sector) {
+        Some(header) => print_snapshot(rt, slot, &header, read_body(image, slot)),
+        None if is_blank(&sector) => Ok(print_none(rt, slot, "no header")?),
+        None => Ok(print_none(rt, slot, "not a header")?),
     }
 }

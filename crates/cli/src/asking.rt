@@ -1,0 +1,178 @@
+//! The job that the words of the command line ask for.
+use crate::faults::{Fault, WordFault};
+use crate::helps::Command;
+use crate::options::{check_options, split_flag, unknown, value_of};
+use drills::drilling::Options;
+use halls::setting::Setting;
+use jobs::faults::JobFault;
+use jobs::matching::MarketKind;
+use records::numbers::HouseNumber;
+use std::alloc::Global;
+use words::number;
+
+// How many plans are tried at one cut where the words do not say.
+const PLANS: u32 = 64;
+
+/// What the program is asked to do.
+#[derive(Clone, Copy)]
+pub enum Job<'w> {
+    /// To tell of one command, or of all.
+    Help(Option<Command>),
+    Match { market: MarketKind },
+    Page { sectors: usize },
+    Play,
+    Drill(Options<'w>),
+    SetUp(Setting<'w>),
+    Show { file: &'w str },
+}
+
+// The market of this name.
+fn market_named(heap: Global, name: &str) -> Result<MarketKind, WordFault> {
+    match name.parse() {
+        Ok(market) => Ok(market),
+        Err(_) => unknown(heap, name),
+    }
+}
+
+// The value of an option that has to be there; `form` names it with its value.
+fn needed<'w>(words: &[&'w str], name: &str, form: &'static str) -> Result<&'w str, WordFault> {
+    value_of(words, name).ok_or(WordFault::Missing(form))
+}
+
+// The words after `match`.
+fn match_job(heap: Global, words: &[&str]) -> Result<Job<'static>, WordFault> {
+    check_options(heap, words, &["--market"])?;
+    let market = match value_of(words, "--market") {
+        None => MarketKind::Book,
+        Some(name) => market_named(heap, name)?,
+    };
+    Ok(Job::Match { market })
+}
+
+// The words after `page`.
+fn page_job(heap: Global, words: &[&str]) -> Result<Job<'static>, WordFault> {
+    check_options(heap, words, &["--sectors"])?;
+    let sectors = needed(words, "--sectors", "--sectors N")?;
+    Ok(Job::Page {
+        sectors: number(sectors, "--sectors")?,
+    })
+}
+
+fn plans_of(word: &str) -> Result<u32, WordFault> {
+    match number(word, "--plans")? {
+        0 => Err(WordFault::NoPlans),
+        plans => Ok(plans),
+    }
+}
+
+// The words after `drill` and the script's name: those of the pile come last.
+fn drill_job<'w>(
+    heap: Global,
+    script: &'w str,
+    words: &'w [&'w str],
+) -> Result<Job<'w>, WordFault> {
+    let (plans, words) = match words {
+        ["--plans", value, rest @ ..] => (plans_of(value)?, rest),
+        ["--plans"] => return Err(WordFault::NoNumber("--plans")),
+        _ => (PLANS, words),
+    };
+    let pile = match words {
+        [] => None,
+        ["--pile", pile @ ..] => Some(pile),
+        [word, ..] => return unknown(heap, word),
+    };
+    Ok(Job::Drill(Options {
+        script,
+        plans,
+        pile,
+    }))
+}
+
+// The words after `setup` and the file's name.
+fn setup_job<'w>(heap: Global, file: &'w str, words: &[&'w str]) -> Result<Job<'w>, WordFault> {
+    let (words, force) = split_flag(heap, words, "--force")?;
+    check_options(
+        heap,
+        &words,
+        &["--house", "--market", "--sectors", "--mirror"],
+    )?;
+    let house = needed(&words, "--house", "--house H")?;
+    let market = needed(&words, "--market", "--market book|call")?;
+    let sectors = needed(&words, "--sectors", "--sectors N")?;
+    Ok(Job::SetUp(Setting {
+        file,
+        mirror: value_of(&words, "--mirror"),
+        house: HouseNumber(number(house, "--house")?),
+        market: market_named(heap, market)?,
+        sectors: number(sectors, "--sectors")?,
+        force,
+    }))
+}
+
+// The name of the file that a command is of, and the words after it. (Two parts of one slice, of which a struct would be made anew.)
+fn split_file<'w>(
+    words: &'w [&'w str],
+    what: &'static str,
+) -> Result<(&'w str, &'w [&'w str]), WordFault> {
+    match words {
+        [file, rest @ ..] if !file.starts_with("--") => Ok((*file, rest)),
+        _ => Err(WordFault::Missing(what)),
+    }
+}
+
+// A command that has no words after those that were read.
+fn alone<'w>(heap: Global, words: &[&str], job: Job<'w>) -> Result<Job<'w>, WordFault> {
+    match words {
+        [] => Ok(job),
+        [word, ..] => unknown(heap, word),
+    }
+}
+
+// The words after the command's name.
+fn command_job<'w>(
+    heap: Global,
+    command: Command,
+    words: &'w [&'w str],
+) -> Result<Job<'w>, WordFault> {
+    match command {
+        Command::Match => match_job(heap, words),
+        Command::Page => page_job(heap, words),
+        Command::Play => alone(heap, words, Job::Play),
+        Command::Drill => {
+            let (script, words) = split_file(words, "the name of a SCRIPT")?;
+            drill_job(heap, script, words)
+        }
+        Command::SetUp => {
+            let (file, words) = split_file(words, "the name of a FILE")?;
+            setup_job(heap, file, words)
+        }
+        Command::Show => {
+            let (file, words) = split_file(words, "the name of a FILE")?;
+            alone(heap, words, Job::Show { file })
+        }
+    }
+}
+
+// What is wrong with the words, of this command where one was named.
+fn told(why: WordFault, command: Option<Command>) -> Fault {
+    match why {
+        WordFault::NoMemory => Fault::Stopped(JobFault::NoMemory),
+        why => Fault::Words(why, command),
+    }
+}
+
+/// The job that the words after the program's name ask for.
+pub fn job_of<'w>(heap: Global, words: &'w [&'w str]) -> Result<Job<'w>, Fault> {
+    let (name, words) = match words {
+        [] => return Err(Fault::Words(WordFault::NoJob, None)),
+        ["--help", ..] => return Ok(Job::Help(None)),
+        [name, words @ ..] => (*name, words),
+    };
+    let Some(command) = Command::named(name) else {
+        return unknown(heap, name).map_err(|why| told(why, None));
+    };
+    if words.contains(&"--help") {
+        return Ok(Job::Help(Some(command)));
+    }
+    command_job(heap, command, words).map_err(|why| told(why, Some(command)))
+}
