@@ -9,6 +9,7 @@ command_name command.Page = codes "page"
 command_name command.Play = codes "play"
 command_name command.Drill = codes "drill"
 command_name command.SetUp = codes "setup"
+command_name command.Run = codes "run"
 command_name command.Show = codes "show"
 
 -- the word is no command's name

@@ -7,6 +7,7 @@ use halls::setting::Setting;
 use jobs::faults::JobFault;
 use jobs::matching::MarketKind;
 use records::numbers::HouseNumber;
+use runs::running::{Format, Run};
 use std::alloc::Global;
 use words::number;
 
@@ -20,9 +21,10 @@ pub enum Job<'w> {
     Help(Option<Command>),
     Match { market: MarketKind },
     Page { sectors: usize },
-    Play,
+    Play { scripts: &'w [&'w str] },
     Drill(Options<'w>),
     SetUp(Setting<'w>),
+    Run(Run<'w>),
     Show { file: &'w str },
 }
 
@@ -31,6 +33,15 @@ fn market_named(heap: Global, name: &str) -> Result<MarketKind, WordFault> {
     match name.parse() {
         Ok(market) => Ok(market),
         Err(_) => unknown(heap, name),
+    }
+}
+
+// The format of this name.
+fn format_named(heap: Global, name: &str) -> Result<Format, WordFault> {
+    match name {
+        "text" => Ok(Format::Text),
+        "csv" => Ok(Format::Csv),
+        _ => unknown(heap, name),
     }
 }
 
@@ -56,6 +67,14 @@ fn page_job(heap: Global, words: &[&str]) -> Result<Job<'static>, WordFault> {
     Ok(Job::Page {
         sectors: number(sectors, "--sectors")?,
     })
+}
+
+// The words after `play`: the names of scripts, and no options.
+fn play_job<'w>(heap: Global, words: &'w [&'w str]) -> Result<Job<'w>, WordFault> {
+    match words.iter().find(|word| word.starts_with("--")) {
+        Some(word) => unknown(heap, word),
+        None => Ok(Job::Play { scripts: words }),
+    }
 }
 
 fn plans_of(word: &str) -> Result<u32, WordFault> {
@@ -109,6 +128,28 @@ fn setup_job<'w>(heap: Global, file: &'w str, words: &[&'w str]) -> Result<Job<'
     }))
 }
 
+// The words after `run` and the file's name.
+fn run_job<'w>(heap: Global, file: &'w str, words: &[&'w str]) -> Result<Job<'w>, WordFault> {
+    check_options(
+        heap,
+        words,
+        &["--house", "--market", "--mirror", "--format"],
+    )?;
+    let house = needed(words, "--house", "--house H")?;
+    let market = needed(words, "--market", "--market book|call")?;
+    let format = match value_of(words, "--format") {
+        None => Format::Text,
+        Some(word) => format_named(heap, word)?,
+    };
+    Ok(Job::Run(Run {
+        file,
+        mirror: value_of(words, "--mirror"),
+        house: HouseNumber(number(house, "--house")?),
+        market: market_named(heap, market)?,
+        format,
+    }))
+}
+
 // The name of the file that a command is of, and the words after it. (Two parts of one slice, of which a struct would be made anew.)
 fn split_file<'w>(
     words: &'w [&'w str],
@@ -137,7 +178,7 @@ fn command_job<'w>(
     match command {
         Command::Match => match_job(heap, words),
         Command::Page => page_job(heap, words),
-        Command::Play => alone(heap, words, Job::Play),
+        Command::Play => play_job(heap, words),
         Command::Drill => {
             let (script, words) = split_file(words, "the name of a SCRIPT")?;
             drill_job(heap, script, words)
@@ -145,6 +186,10 @@ fn command_job<'w>(
         Command::SetUp => {
             let (file, words) = split_file(words, "the name of a FILE")?;
             setup_job(heap, file, words)
+        }
+        Command::Run => {
+            let (file, words) = split_file(words, "the name of a FILE")?;
+            run_job(heap, file, words)
         }
         Command::Show => {
             let (file, words) = split_file(words, "the name of a FILE")?;

@@ -1,12 +1,13 @@
 //! What is wrong with the arguments, or what stopped the job.
 ghost use Rattle.std.specs.Prelude.{◌≡◌};
-ghost use Rattle.cli.specs.declared.faults.Fault.TheVariants.{Drill, Hall};
+ghost use Rattle.cli.specs.declared.faults.Fault.TheVariants.{Drill, Hall, Run};
 ghost use Rattle.cli.specs.declared.faults.WordFault.TheVariants as word;
 
 use crate::helps::Command;
 use drills::faults::DrillFault;
 use halls::faults::HallFault;
 use jobs::faults::JobFault;
+use runs::faults::RunFault;
 use std::alloc::AllocError;
 use std::{fmt, io};
 use words::NoNumber;
@@ -39,6 +40,7 @@ pub enum Fault {
     Stopped(JobFault),
     Drill(DrillFault),
     Hall(HallFault),
+    Run(RunFault),
     /// A drill broke a promise.
     Broken,
 }
@@ -69,6 +71,7 @@ impl fmt::Display for Fault {
             Fault::Stopped(fault) => write!(f, "{fault}"),
             Fault::Drill(fault) => write!(f, "{fault}"),
             Fault::Hall(fault) => write!(f, "{fault}"),
+            Fault::Run(fault) => write!(f, "{fault}"),
             Fault::Broken => write!(f, "a promise was broken"),
         }
     }
@@ -109,6 +112,14 @@ impl From<HallFault> for Fault {
 
     fn from(fault: HallFault) -> Fault {
         Fault::Hall(fault)
+    }
+}
+
+impl From<RunFault> for Fault {
+    ghost from_gives = { λ e f. f ≡ Run e };
+
+    fn from(fault: RunFault) -> Fault {
+        Fault::Run(fault)
     }
 }
 

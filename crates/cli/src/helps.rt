@@ -12,16 +12,18 @@ pub enum Command {
     Play,
     Drill,
     SetUp,
+    Run,
     Show,
 }
 
 // The commands, in the order of the overview.
-const COMMANDS: [Command; 6] = [
+const COMMANDS: [Command; 7] = [
     Command::Match,
     Command::Page,
     Command::Play,
     Command::Drill,
     Command::SetUp,
+    Command::Run,
     Command::Show,
 ];
 
@@ -65,9 +67,11 @@ output or memory fails.",
 };
 
 const PLAY: Help = Help {
-    form: "play",
-    does: "run the script of standard input on an exchange, and print each answer",
+    form: "play [SCRIPT..]",
+    does: "run scripts on an exchange, and print each answer",
     more: "\
+SCRIPT  the name of a file with a script; where none is named, standard input has one
+
 A script says what is set up, and then calls the exchange, a line each:
   house NUMBER, market book|call, device PILE, then setup
   stage enter|cancel|cross as in match, or stage hex BYTES
@@ -114,6 +118,26 @@ Status 0 where the exchange is set up; 1 where it is refused, and then no file i
 where a file or memory fails.",
 };
 
+const RUN: Help = Help {
+    form: "run FILE --house H --market book|call [--mirror FILE2] [--format text|csv]",
+    does: "open the exchange on a file, or on a mirror of two, and take the commands of standard input",
+    more: "\
+FILE            the file that the exchange was set up on
+--house H       the number of its house
+--market M      its market, book or call
+--mirror FILE2  the other half of its mirror: both are named at every run
+--format F      how it is printed: text, for people, if left out, or csv, a record a line
+
+One command a line, as in match. A page is written at 16 commands, at a blank line or the word commit
+alone, and at the end of the input. Its receipt and its notices are printed once the page is safe, and
+are delivered once they are printed. What the journal holds is printed again when the exchange opens. A
+snapshot is taken where the journal is full, and at the end.
+
+Status 0 at the end of the input, also where lines were refused; 1 where the words are wrong, a file is
+not there, in use, no image or another exchange's, and then nothing in it is changed; or where a file,
+input, output or memory fails: what has a receipt is safe then.",
+};
+
 const SHOW: Help = Help {
     form: "show FILE",
     does: "print what such a file holds, and what an opening would do; nothing is written",
@@ -138,6 +162,7 @@ impl Command {
             "play" => Some(Command::Play),
             "drill" => Some(Command::Drill),
             "setup" => Some(Command::SetUp),
+            "run" => Some(Command::Run),
             "show" => Some(Command::Show),
             _ => None,
         }
@@ -153,6 +178,7 @@ impl Command {
             Command::Play => "play",
             Command::Drill => "drill",
             Command::SetUp => "setup",
+            Command::Run => "run",
             Command::Show => "show",
         }
     }
@@ -164,6 +190,7 @@ impl Command {
             Command::Play => &PLAY,
             Command::Drill => &DRILL,
             Command::SetUp => &SET_UP,
+            Command::Run => &RUN,
             Command::Show => &SHOW,
         }
     }

@@ -17,7 +17,8 @@ use halls::setting::set_up_file;
 use halls::showing::show_file;
 use jobs::matching::match_orders;
 use jobs::paging::page_orders;
-use plays::playing::play_script;
+use plays::playing::play_scripts;
+use runs::running::run_file;
 use std::env;
 use std::process::ExitCode;
 
@@ -38,9 +39,10 @@ fn run(rt: &HostRuntime) -> Result<(), Fault> {
         Job::Help(Some(command)) => print_help(rt, command)?,
         Job::Match { market } => match_orders(rt, market)?,
         Job::Page { sectors } => page_orders(rt, sectors)?,
-        Job::Play => play_script(rt)?,
+        Job::Play { scripts } => play_scripts(rt, scripts)?,
         Job::Drill(options) => run_drill(rt, options)?,
         Job::SetUp(setting) => set_up_file(rt, setting)?,
+        Job::Run(run) => run_file(rt, run)?,
         Job::Show { file } => show_file(rt, file)?,
     }
     Ok(())

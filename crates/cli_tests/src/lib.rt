@@ -5,10 +5,11 @@
 mod tests {
     use cli::asking::{Job, job_of};
     use play_words::script::MarketKind;
+    use runs::running::Format;
     use std::test::Fail;
 
     // Words with blanks between them, and what is wrong with them.
-    const WRONG: [(&str, &str); 25] = [
+    const WRONG: [(&str, &str); 29] = [
         ("", "say what to do\nhammerbuff --help tells more"),
         (
             "mend",
@@ -39,8 +40,8 @@ mod tests {
             "--sectors needs a number\nhammerbuff page --help tells more",
         ),
         (
-            "play script",
-            "script is not known here\nhammerbuff play --help tells more",
+            "play script --slow",
+            "--slow is not known here\nhammerbuff play --help tells more",
         ),
         (
             "drill",
@@ -99,6 +100,22 @@ mod tests {
             "g is not known here\nhammerbuff setup --help tells more",
         ),
         (
+            "run",
+            "the name of a FILE is missing\nhammerbuff run --help tells more",
+        ),
+        (
+            "run f --house 7",
+            "--market book|call is missing\nhammerbuff run --help tells more",
+        ),
+        (
+            "run f --house 7 --market book --format json",
+            "json is not known here\nhammerbuff run --help tells more",
+        ),
+        (
+            "run f --house 7 --market book --sectors 9",
+            "--sectors is not known here\nhammerbuff run --help tells more",
+        ),
+        (
             "show",
             "the name of a FILE is missing\nhammerbuff show --help tells more",
         ),
@@ -127,6 +144,28 @@ mod tests {
         "setup f --house 7 --market call --sectors 9 --mirror g --force",
         "setup f --force --mirror g --sectors 9 --market call --house 7",
     ];
+
+    // The options of a run in two orders.
+    const RUNS: [&str; 2] = [
+        "run f --house 7 --market book --mirror g --format csv",
+        "run f --format csv --mirror g --market book --house 7",
+    ];
+
+    #[test]
+    fn a_run_is_asked_for(rt: HostRuntime) -> Result<(), Fail> {
+        for line in RUNS {
+            let words: Vec<&str> = line.split_whitespace().collect(rt.alloc())?;
+            let Ok(Job::Run(run)) = job_of(rt.alloc(), &words) else {
+                return Err(Fail::new("another job is asked for"));
+            };
+            assert_eq!(rt; run.file, "f");
+            assert_eq!(rt; run.mirror, Some("g"));
+            assert_eq!(rt; run.house.0, 7);
+            assert!(rt; matches!(&run.market, MarketKind::Book));
+            assert!(rt; matches!(&run.format, Format::Csv));
+        }
+        Ok(())
+    }
 
     #[test]
     fn a_set_up_is_asked_for(rt: HostRuntime) -> Result<(), Fail> {

@@ -15,10 +15,9 @@ use jobs::faults::JobFault;
 use pile_words::pile_of;
 use piles::{PileShape, WholeShape};
 use play_words::script::{MarketKind, Script};
-use plays::reading::read_script;
+use plays::reading::script_in;
 use ruled_market::rules::Rules;
 use std::alloc::AllocError;
-use std::fs;
 
 /// The plan that is tried first at each cut: it drops every write.
 pub(crate) const DROPS: Plan = Plan { bits: 0 };
@@ -153,8 +152,7 @@ fn has_cuts(pile: &PileShape) -> bool
 
 // The script, over the pile that is asked for.
 fn script_of(rt: &HostRuntime, options: Options) -> Result<Script, DrillFault> {
-    let file = fs::open(rt, options.script).map_err(DrillFault::File)?;
-    let mut script = read_script(rt.alloc(), file)?;
+    let mut script = script_in(rt, options.script)?;
     if let Some(words) = options.pile {
         script.pile = pile_of(rt.alloc(), words)?;
     }

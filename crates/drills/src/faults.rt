@@ -13,8 +13,6 @@ use std::{fmt, io};
 /// Why a drill ended early.
 #[derive(Drop)]
 pub enum DrillFault {
-    /// The script's file cannot be opened.
-    File(io::Error),
     /// The words after `--pile` are no pile.
     Pile(PileFault),
     /// The device has cuts of its own.
@@ -27,7 +25,6 @@ pub enum DrillFault {
 impl fmt::Display for DrillFault {
     fn fmt<W: fmt::Write>(&self, f: &mut fmt::Formatter<W>) -> fmt::Result {
         match self {
-            DrillFault::File(e) => write!(f, "the script cannot be opened: {e}"),
             DrillFault::Pile(why) => write!(f, "the pile: {why}"),
             DrillFault::Cuts => write!(
                 f,

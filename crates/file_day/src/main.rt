@@ -1,4 +1,5 @@
-//! A short day of an exchange on a real file, an opening of what the file then holds, and a file that cannot be written.
+//! A short day of an exchange on a real file, then runs on what the file holds: by others, which are refused, by its own house with
+//! commands from standard input, and once more; and a file that cannot be written.
 //!
 //! It prints each thing that it did. What is printed is tested, not proved.
 #![tactic(auto)]
@@ -6,15 +7,17 @@
 use book::shape::Continuous;
 use drives::Drive;
 use exchange::state::Exchange;
-use file_device::{OnFile, load_image};
+use file_device::OnFile;
+use play_words::script::MarketKind;
 use records::commands::{Command, Side};
-use records::notices::Notice;
 use records::numbers::{HouseNumber, Lots, Member, Price};
 use ruled_market::shape::RestingMarket;
 use runner::running::{RunFault, run_script};
 use runner::script::Call;
+use runs::running::{Format, Run, run_file};
 use std::alloc::{AllocError, Global};
 use std::fs::{File, OpenOptions};
+use std::io;
 
 type Hall<'a> = Exchange<RestingMarket<Continuous>, OnFile<'a>>;
 
@@ -83,35 +86,19 @@ fn run_day(rt: &HostRuntime, file: File, calls: &[Call]) -> anyhow::Result<()> {
     print_status(rt, &hall)
 }
 
-// Opens what the file holds.
-fn open_again(rt: &HostRuntime, file: File) -> anyhow::Result<()> {
-    let mut image = [0; IMAGE_BYTES];
-    load_image(&file, &mut image);
-    let mut hall = hall(rt.alloc(), &mut image, file)?;
-    match hall.open() {
-        Ok(page) => println!(rt; "open: page {}", page.0)?,
-        Err(fault) => println!(rt; "open refused {}", fault.reason.number())?,
+// The exchange of this house, run on the file: standard input holds its commands.
+fn run(rt: &HostRuntime, house: u32, market: MarketKind, format: Format) -> io::Result<()> {
+    let run = Run {
+        file: NAME,
+        mirror: None,
+        house: HouseNumber(house),
+        market,
+        format,
+    };
+    if let Err(fault) = run_file(rt, run) {
+        println!(rt; "refused: {fault}")?;
     }
-    let mut list = vec![in rt.alloc(); Notice::default(); 1024]?;
-    for _ in 0..SECTORS {
-        match hall.replay(list.as_mut_slice()) {
-            Ok(Some(receipt)) => {
-                let numbers = receipt.numbers();
-                hall.shelve(receipt);
-                let (page, notices) = (numbers.page.0, numbers.notices);
-                println!(rt; "replay: page {page}, notices {notices}")?;
-            }
-            Ok(None) => {
-                println!(rt; "replay: none")?;
-                break;
-            }
-            Err(fault) => {
-                println!(rt; "replay refused {}", fault.reason.number())?;
-                break;
-            }
-        }
-    }
-    print_status(rt, &hall)
+    Ok(())
 }
 
 fn main(rt: HostRuntime) -> anyhow::Result<()> {
@@ -121,11 +108,13 @@ fn main(rt: HostRuntime) -> anyhow::Result<()> {
     let file = options.open(&rt, NAME)?;
     file.set_len(FILE_BYTES)?;
     run_day(&rt, file, &calls)?;
-    println!(&rt; "the same file, opened")?;
-    open_again(
-        &rt,
-        OpenOptions::new().read(true).write(true).open(&rt, NAME)?,
-    )?;
+    println!(&rt; "the same file, by another house and in another market")?;
+    run(&rt, 8, MarketKind::Book, Format::Text)?;
+    run(&rt, 7, MarketKind::Call, Format::Text)?;
+    println!(&rt; "the same file, run")?;
+    run(&rt, 7, MarketKind::Book, Format::Text)?;
+    println!(&rt; "the same file, run once more")?;
+    run(&rt, 7, MarketKind::Book, Format::Csv)?;
     println!(&rt; "the same file, to be read alone")?;
     run_day(&rt, File::open(&rt, NAME)?, &calls)
 }

@@ -22,8 +22,8 @@ pub enum HallFault {
     File { name: String, error: io::Error },
     /// Both names of a mirror are those of one file.
     OneFile,
-    /// The file's length is no image's.
-    NoImage,
+    /// The length of the file of this name is no image's.
+    NoImage(String),
     /// An exchange cannot lie on so many sectors.
     Sectors,
     /// The exchange cannot be set up.
@@ -46,9 +46,9 @@ impl fmt::Display for HallFault {
                 write!(f, "the file {name} cannot be used: {error}")
             }
             HallFault::OneFile => write!(f, "a mirror needs two files, and both names are of one"),
-            HallFault::NoImage => write!(
+            HallFault::NoImage(name) => write!(
                 f,
-                "the file is no image: one has 9 to 4096 sectors of 512 bytes"
+                "{name} is no image: one has 9 to 4096 sectors of 512 bytes"
             ),
             HallFault::Sectors => write!(f, "a device has 9 to 4096 sectors"),
             HallFault::SetUp(why) => {

@@ -1,13 +1,17 @@
-//! Files by their names: those that an exchange is set up on.
+//! Files by their names: those that an exchange is set up on, and those that hold an image.
+ghost use Rattle.std.specs.Prelude.{◌≡◌, ◌*◌, ℕ, true, IfOk, vec_len};
+ghost use Rattle.journal.specs.Places.{size_good};
+
 use crate::faults::HallFault;
 use crate::sizes::ImageSize;
+use file_device::load_image;
 use std::alloc::Global;
 use std::fs::{File, Metadata, OpenOptions};
 use std::os::unix::fs::MetadataExt;
 use std::{fs, io};
 
 /// What the system says of the file of this name.
-pub(crate) fn fault_of(heap: Global, name: &str, error: io::Error) -> HallFault {
+pub fn fault_of(heap: Global, name: &str, error: io::Error) -> HallFault {
     let Ok(name) = String::from_str(heap, name) else {
         return HallFault::NoMemory;
     };
@@ -25,8 +29,8 @@ struct Place<'w> {
     there: bool,
 }
 
-/// Sees that this is what the system says of a plain file.
-pub(crate) fn check_plain(heap: Global, name: &str, metadata: &Metadata) -> Result<(), HallFault> {
+// Sees that this is what the system says of a plain file.
+fn check_plain(heap: Global, name: &str, metadata: &Metadata) -> Result<(), HallFault> {
     if metadata.is_file() {
         return Ok(());
     }
@@ -137,4 +141,24 @@ pub(crate) fn make_files(
     clear_place(rt, one, &first, size)?;
     clear_place(rt, two, &second, size)?;
     Ok((first, second))
+}
+
+// How many bytes an image of this file has in memory.
+fn size_of(heap: Global, name: &str, file: &File) -> Result<ImageSize, HallFault> {
+    let metadata = file.metadata()?;
+    check_plain(heap, name, &metadata)?;
+    match ImageSize::of_length(metadata.len()) {
+        Some(size) => Ok(size),
+        None => Err(HallFault::NoImage(String::from_str(heap, name)?)),
+    }
+}
+
+/// The image in the open file of this name, read into memory.
+pub fn image_of(heap: Global, name: &str, file: &File) -> Result<Vec<u8>, HallFault>
+    ensures { IfOk result (λ image. (n : ℕ) × (size_good n ≡ true) × (vec_len image ≡ 513 * n)) }
+{
+    let size = size_of(heap, name, file)?;
+    let mut image = Vec::from_elem(heap, 0, size.image_bytes())?;
+    load_image(file, &mut image);
+    Ok(image)
 }

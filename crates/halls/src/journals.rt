@@ -43,7 +43,7 @@ fn print_stands(
 ) -> io::Result<()> {
     for opening in openings {
         if openings.len() > 1 {
-            let (house, market) = (opening.owner.house.0, MarketWord(opening.owner.market));
+            let (house, market) = (opening.owner.house.0, MarketWord(opening.market));
             print!(rt; "; to house {house}, market {market}")?;
         }
         print!(rt; ": ")?;

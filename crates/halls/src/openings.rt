@@ -4,7 +4,7 @@ ghost use Rattle.halls.specs.Openings.{taken_slot};
 
 use crate::courses::{Course, replay_all};
 use crate::faults::HallFault;
-use crate::markets::MarketWord;
+use crate::markets::{MarketWord, market_of};
 use crate::owners::{Owner, owners_of};
 use book::shape::Continuous;
 use call::shape::Crossing;
@@ -32,6 +32,7 @@ use std::io;
 pub(crate) struct Opening {
     pub(crate) owner: Owner,
     pub(crate) course: Course,
+    pub(crate) market: MarketKind,
     slot: Option<Slot>,
     status: Status,
     buys: Vec<Order>,
@@ -52,7 +53,12 @@ fn header_sector(image: &[u8], slot: Slot) -> Sector {
 }
 
 // Opens an exchange of the market of these rules on the image.
-fn open_in<R: Rules>(heap: Global, image: &mut [u8], owner: Owner) -> Result<Opening, AllocError> {
+fn open_in<R: Rules>(
+    heap: Global,
+    image: &mut [u8],
+    owner: Owner,
+    market: MarketKind,
+) -> Result<Opening, AllocError> {
     let zero = header_sector(image, Slot::Zero);
     let one = header_sector(image, Slot::One);
     let slot = taken::<R>(&zero, &one, owner.house);
@@ -68,6 +74,7 @@ fn open_in<R: Rules>(heap: Global, image: &mut [u8], owner: Owner) -> Result<Ope
     Ok(Opening {
         owner,
         course,
+        market,
         slot,
         status: exchange.status(),
         buys: Vec::from_slice(heap, exchange.market().buys())?,
@@ -76,21 +83,28 @@ fn open_in<R: Rules>(heap: Global, image: &mut [u8], owner: Owner) -> Result<Ope
 }
 
 // Opens an exchange of this owner on the image, which replays all the pages that it can.
-fn open_as(heap: Global, image: &mut [u8], owner: Owner) -> Result<Opening, AllocError> {
-    match owner.market {
-        MarketKind::Book => open_in::<Continuous>(heap, image, owner),
-        MarketKind::Call => open_in::<Crossing>(heap, image, owner),
+fn open_as(
+    heap: Global,
+    image: &mut [u8],
+    owner: Owner,
+    market: MarketKind,
+) -> Result<Opening, AllocError> {
+    match market {
+        MarketKind::Book => open_in::<Continuous>(heap, image, owner, market),
+        MarketKind::Call => open_in::<Crossing>(heap, image, owner, market),
     }
 }
 
-/// What an opening makes of the image, by each house and market of its snapshots.
+/// What an opening makes of the image, by each house and market of its snapshots; a code that is no market's is passed over.
 pub(crate) fn open_all(heap: Global, image: &mut [u8]) -> Result<Vec<Opening>, AllocError> {
     let owners = owners_of(heap, image)?;
     let mut openings = Vec::new(heap);
     for owner in owners.iter() {
-        openings
-            .push(open_as(heap, image, *owner)?)
-            .map_err(AllocError::from)?;
+        if let Some(market) = market_of(owner.code) {
+            openings
+                .push(open_as(heap, image, *owner, market)?)
+                .map_err(AllocError::from)?;
+        }
     }
     Ok(openings)
 }
@@ -119,7 +133,7 @@ fn print_replayed(rt: &HostRuntime, course: Course) -> io::Result<()> {
 
 /// What an opening does, and what it comes to.
 pub(crate) fn print_opening(rt: &HostRuntime, opening: &Opening) -> Result<(), HallFault> {
-    let (house, market) = (opening.owner.house.0, MarketWord(opening.owner.market));
+    let (house, market) = (opening.owner.house.0, MarketWord(opening.market));
     print!(rt; "an opening of house {house}, market {market}, takes ")?;
     match opening.slot {
         Some(slot) => print!(rt; "slot {}, ", slot as u8)?,

@@ -1,11 +1,9 @@
 //! What a file holds.
 use crate::faults::HallFault;
-use crate::files::{check_plain, fault_of};
+use crate::files::{fault_of, image_of};
 use crate::journals::print_journal;
 use crate::openings::{open_all, print_opening};
-use crate::sizes::ImageSize;
 use crate::slots::print_slot;
-use file_device::load_image;
 use image::sectors::count;
 use journal::layouts::Layout;
 use journal::slots::Slot;
@@ -15,11 +13,7 @@ use std::fs::File;
 /// Prints what a file holds: its snapshots, its journal, and what an opening makes of them. The file is only read.
 pub fn show_file(rt: &HostRuntime, name: &str) -> Result<(), HallFault> {
     let file = File::open(rt, name).map_err(|e| fault_of(rt.alloc(), name, e))?;
-    let metadata = file.metadata()?;
-    check_plain(rt.alloc(), name, &metadata)?;
-    let size = ImageSize::of_length(metadata.len()).ok_or(HallFault::NoImage)?;
-    let mut image = Vec::from_elem(rt.alloc(), 0, size.image_bytes())?;
-    load_image(&file, &mut image);
+    let mut image = image_of(rt.alloc(), name, &file)?;
     show_image(rt, name, &mut image)
 }
 
@@ -27,7 +21,9 @@ pub fn show_file(rt: &HostRuntime, name: &str) -> Result<(), HallFault> {
 /// opened on it, and replays all that it can.
 pub fn show_image(rt: &HostRuntime, name: &str, image: &mut [u8]) -> Result<(), HallFault> {
     let sectors = count(image);
-    let layout = Layout::new(sectors).ok_or(HallFault::NoImage)?;
+    let Some(layout) = Layout::new(sectors) else {
+        return Err(HallFault::NoImage(String::from_str(rt.alloc(), name)?));
+    };
     println!(rt; "{name}: {sectors} sectors")?;
     print_slot(rt, image, Slot::Zero)?;
     print_slot(rt, image, Slot::One)?;

@@ -11,6 +11,8 @@ pub enum JobFault {
     Sectors,
     /// No command number is left.
     NumbersSpent,
+    /// The file of this name cannot be opened.
+    File { name: String, error: io::Error },
     /// A line of a script cannot be read.
     Script(ScriptFault),
     Io(io::Error),
@@ -22,6 +24,7 @@ impl fmt::Display for JobFault {
             JobFault::NoMemory => write!(f, "there is not enough memory"),
             JobFault::Sectors => write!(f, "a device has 9 to 4096 sectors"),
             JobFault::NumbersSpent => write!(f, "no command number is left"),
+            JobFault::File { name, error } => write!(f, "{name} cannot be opened: {error}"),
             JobFault::Script(fault) => write!(f, "{fault}"),
             JobFault::Io(e) => write!(f, "{e}"),
         }

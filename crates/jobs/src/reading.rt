@@ -4,6 +4,7 @@ ghost use Rattle.std.specs.List.{All};
 ghost use Rattle.std.specs.Fn.{FnOnceReturnsAt};
 ghost use Rattle.console.specs.Inputs.{held};
 ghost use Rattle.jobs.specs.Lines.{Wordless};
+ghost use Rattle.jobs.specs.Ranges.{SaysRange};
 
 use crate::faults::JobFault;
 use console::input::LineBuffer;
@@ -11,7 +12,7 @@ use records::commands::Command;
 use records::refusals::Refusal;
 use std::alloc::{AllocError, Global};
 use std::io;
-use std::io::{BufReader, Read};
+use std::io::{BufRead, BufReader, Read};
 use words::{LineFault, command_of};
 
 /// Why a command is not taken: it is refused, or the job ends.
@@ -50,8 +51,10 @@ pub(crate) trait Taker {
     fn take_command(&mut self, rt: &HostRuntime, command: Command) -> Result<(), NotTaken>;
 }
 
-// Which number of a command is out of its range.
-pub(crate) fn range_fault(command: &Command) -> LineFault {
+/// Which number of a command that is no good one is out of its range.
+pub fn range_fault(command: &Command) -> LineFault
+    ensures { SaysRange command.now result }
+{
     match *command {
         Command::Enter { member, .. } | Command::Cancel { member, .. } if !member.is_good() => {
             LineFault::Range("a member is 1 to 999999")
@@ -64,8 +67,19 @@ pub(crate) fn range_fault(command: &Command) -> LineFault {
     }
 }
 
-/// Hands each line of the input on under its number, and answers how many newlines came. A loop over bytes: a line has
-/// fixed memory and need not be UTF-8, where `lines` of a BufReader would allocate each line and answer a fault of input.
+// Puts what these bytes have of a line into it; how many they are where the line ends after them.
+fn fill_line(line: &mut LineBuffer, bytes: &[u8]) -> Option<usize> {
+    for (count, byte) in bytes.iter().enumerate() {
+        if *byte == b'\n' {
+            return Some(count);
+        }
+        line.push(*byte);
+    }
+    None
+}
+
+/// Hands each line of the input on under its number, and answers how many newlines came. A line has fixed memory and need not be
+/// UTF-8, where `lines` of a BufReader would allocate each line and answer a fault of input.
 pub fn each_line<
     I: Read + Drop,
     E: From<io::Error> + From<AllocError>,
@@ -73,17 +87,25 @@ pub fn each_line<
 >(heap: Global, input: I, mut take: F) -> Result<u64, E>
     requires { F.IsAlwaysCallable take }
 {
+    let mut reader = BufReader::new(heap, input)?;
     let mut buffer = LineBuffer::new();
     let mut line: u64 = 0;
-    for byte in BufReader::new(heap, input)?.bytes() {
-        let byte = byte?;
-        if byte != b'\n' {
-            buffer.push(byte);
-            continue;
+    // A counted loop, since an input has no length.
+    for _ in 0..u64::MAX {
+        let bytes = reader.fill_buf()?;
+        let whole = bytes.len();
+        if whole == 0 {
+            break;
         }
-        line = line.saturating_add(1);
-        take(line, &buffer)?;
-        buffer.clear();
+        match fill_line(&mut buffer, bytes) {
+            None => reader.consume(whole),
+            Some(count) => {
+                reader.consume(count.saturating_add(1));
+                line = line.saturating_add(1);
+                take(line, &buffer)?;
+                buffer.clear();
+            }
+        }
     }
     if !buffer.is_empty() {
         take(line.saturating_add(1), &buffer)?;

@@ -1,7 +1,7 @@
 //! The run of a script.
 use crate::answers::{Tokens, print_answer, print_call, print_made};
 use crate::lines::{PhaseWord, RefusalWords};
-use crate::reading::read_script;
+use crate::reading::{read_script, script_in};
 use book::shape::Continuous;
 use call::shape::Crossing;
 use device::Device;
@@ -81,13 +81,24 @@ fn on_images<'a, R: Rules, E: From<io::Error> + From<AllocError>>(
 }
 
 // The market is chosen once, from a word: what follows is one generic function.
-/// Runs the script of standard input. A line that cannot be read ends the job before anything is run.
-pub fn play_script(rt: &HostRuntime) -> Result<(), JobFault> {
-    let script = read_script(rt.alloc(), rt.stdin())?;
+fn play(rt: &HostRuntime, script: &Script) -> Result<(), JobFault> {
     let mut first = Vec::from_elem(rt.alloc(), 0, script.pile.first_bytes())?;
     let mut second = Vec::from_elem(rt.alloc(), 0, script.pile.second_bytes())?;
     match script.market {
-        MarketKind::Book => on_images::<Continuous, JobFault>(rt, &script, &mut first, &mut second),
-        MarketKind::Call => on_images::<Crossing, JobFault>(rt, &script, &mut first, &mut second),
+        MarketKind::Book => on_images::<Continuous, JobFault>(rt, script, &mut first, &mut second),
+        MarketKind::Call => on_images::<Crossing, JobFault>(rt, script, &mut first, &mut second),
     }
+}
+
+/// Runs the scripts in the files of these names, each under a line with its name; where there are none, that of standard input. A
+/// line that cannot be read ends the job before anything of its script is run.
+pub fn play_scripts(rt: &HostRuntime, names: &[&str]) -> Result<(), JobFault> {
+    if names.is_empty() {
+        return play(rt, &read_script(rt.alloc(), rt.stdin())?);
+    }
+    for name in names {
+        println!(rt; "script {name}")?;
+        play(rt, &script_in(rt, name)?)?;
+    }
+    Ok(())
 }

@@ -4,6 +4,7 @@ use jobs::reading::{each_line, take_words};
 use play_words::faults::{PlayFault, ScriptFault};
 use play_words::script::{Reader, Script};
 use std::alloc::Global;
+use std::fs::File;
 use std::io::Read;
 
 fn at_line<T>(line: u64, done: Result<T, PlayFault>) -> Result<T, JobFault> {
@@ -20,4 +21,15 @@ pub fn read_script<I: Read + Drop>(heap: Global, input: I) -> Result<Script, Job
         )
     })?;
     at_line(newlines.saturating_add(1), reader.finish())
+}
+
+/// Reads the whole script in the file of this name.
+pub fn script_in(rt: &HostRuntime, name: &str) -> Result<Script, JobFault> {
+    match File::open(rt, name) {
+        Ok(file) => read_script(rt.alloc(), file),
+        Err(error) => Err(JobFault::File {
+            name: String::from_str(rt.alloc(), name)?,
+            error,
+        }),
+    }
 }

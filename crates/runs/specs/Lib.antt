@@ -1,0 +1,4 @@
+pub mod Asks
+pub mod Owners
+pub mod Pages
+pub mod Records
