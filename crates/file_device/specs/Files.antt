@@ -1,4 +1,5 @@
 -- What a device on a file means: what the drive in its memory means. Assumes nothing.
+use Rattle.std.specs.Prelude.{◌≡◌, ◌⊎◌, ℕ, suc}
 use Rattle.std.specs.Borrow.{GName}
 use Rattle.device.specs.Meaning.{Meaning, Lawful}
 use Rattle.drives.specs.Drives.{State, state, meaning_of, meaning_lawful}
@@ -25,3 +26,7 @@ file_lawful f = meaning_lawful (drive_state f.drive)
 
 abbrev pub file_lender : OnFile → GName
 file_lender f = drive_lender f.drive
+
+-- One more write of the file is not synced, or it is the first after a sync that 8 brought on.
+abbrev pub OneMore : ℕ → ℕ → Type 0
+OneMore before after = (after ≡ suc before) ⊎ ((before ≡ 8) × (after ≡ 1))

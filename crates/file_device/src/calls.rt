@@ -2,9 +2,9 @@
 ghost use Rattle.device.specs.Calls.{DidSync, DidWrite};
 ghost use Rattle.device.specs.declared.fault.DeviceFault.TheVariants.{Cut};
 ghost use Rattle.drives.specs.Drives.{fused};
-ghost use Rattle.file_device.specs.Files.{drive_lender, drive_meaning, drive_state, file_lawful, file_lender, file_meaning};
+ghost use Rattle.file_device.specs.Files.{drive_lender, drive_meaning, drive_state, file_lawful, file_lender, file_meaning, OneMore};
 ghost use Rattle.std.specs.Borrow.{GName};
-ghost use Rattle.std.specs.Prelude.{◌<◌, ◌≡◌, Err, Some, false, true};
+ghost use Rattle.std.specs.Prelude.{◌<◌, ◌≡◌, ◌⊎◌, Err, OnOk, Some, false, true};
 
 use crate::on_file::{Backing, OnFile};
 use device::{Device, DeviceFault, Sector};
@@ -27,21 +27,30 @@ const BLOWN: Fuse = Fuse {
 
 impl Backing {
     // The file is synced.
-    fn settle(&mut self) {
+    fn settle(&mut self)
+        ensures synced { (self.new.failed ≡ true) ⊎ (self.new.unsynced ≡ 0) }
+        ensures kept { self.old.failed ≡ true → self.new.failed ≡ true }
+    {
         match self.file.sync_data() {
             Ok(()) => self.unsynced = 0,
             Err(_) => self.failed = true,
         }
     }
 
-    // The file takes a write.
-    fn put(&mut self, sector: usize, bytes: &Sector) {
+    // The file takes a write, unless a sync that has to come first fails.
+    fn put(&mut self, sector: usize, bytes: &Sector)
+        ensures counted { (self.new.failed ≡ true) ⊎ OneMore self.old.unsynced self.new.unsynced }
+        ensures kept { self.old.failed ≡ true → self.new.failed ≡ true }
+    {
         if self.unsynced >= MOST_WAITING {
             self.settle();
+            if self.failed {
+                return;
+            }
         }
         let place = (sector as u64).wrapping_mul(FILE_SECTOR);
         match self.file.write_all_at(bytes, place) {
-            Ok(()) => self.unsynced = self.unsynced.saturating_add(1),
+            Ok(()) => self.unsynced += 1,
             Err(_) => self.failed = true,
         }
     }
@@ -82,7 +91,8 @@ fn cut_sync(drive: &mut WriteBack) -> Result<(), DeviceFault>
 impl<'a> OnFile<'a> {
     /// The drive is over the file's image.
     pub fn new(drive: WriteBack<'a>, file: File) -> OnFile<'a>
-        ensures { result.drive ≡ drive.entry }
+        ensures drive { result.drive ≡ drive.entry }
+        ensures settled { result.backing.unsynced ≡ 0 }
     {
         let backing = Backing {
             file,
@@ -114,7 +124,11 @@ impl Device for OnFile<'_> {
         self.drive.read(sector, buffer)
     }
 
-    fn write(&mut self, sector: usize, bytes: &Sector) -> Result<(), DeviceFault> {
+    fn write(&mut self, sector: usize, bytes: &Sector) -> Result<(), DeviceFault>
+        ensures did { DidWrite (file_meaning self.old) sector bytes.now result (file_meaning self.new) }
+        ensures kept { file_lender self.new ≡ file_lender self.old }
+        ensures counted { OnOk result (OneMore self.old.backing.unsynced self.new.backing.unsynced) }
+    {
         if self.drive.lit() && sector < self.drive.size() {
             self.backing.put(sector, bytes);
             if self.backing.failed {
@@ -124,7 +138,11 @@ impl Device for OnFile<'_> {
         self.drive.write(sector, bytes)
     }
 
-    fn sync(&mut self) -> Result<(), DeviceFault> {
+    fn sync(&mut self) -> Result<(), DeviceFault>
+        ensures did { DidSync (file_meaning self.old) result (file_meaning self.new) }
+        ensures kept { file_lender self.new ≡ file_lender self.old }
+        ensures settled { OnOk result (self.new.backing.unsynced ≡ 0) }
+    {
         if self.drive.lit() {
             self.backing.settle();
             if self.backing.failed {

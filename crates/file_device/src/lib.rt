@@ -5,8 +5,9 @@
 //! cut, and the device is then dark.
 //!
 //! Proved: it keeps the meaning of a device (crate `device`), that of the drive in its memory, and where it has noted an error of the
-//! file it is dark. Not proved: that a call reaches the file and notes its error. Trusted: that the file holds what was written,
-//! and after its sync keeps it; the toolchain and the C library.
+//! file it is dark. Of a write that succeeds one more write of the file is counted, after a sync that succeeds none is, and at most 8
+//! ever are. Not proved: that what is counted was done to the file. Trusted: that the file holds what was written, and after its sync
+//! keeps it; the toolchain and the C library.
 #![tactic(auto)]
 
 pub use images::load_image;

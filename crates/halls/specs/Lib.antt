@@ -1,4 +1,5 @@
 pub mod Codes
+pub mod Courses
 pub mod Openings
 pub mod Owners
 pub mod Sizes

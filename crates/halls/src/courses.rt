@@ -1,4 +1,7 @@
 //! Which pages of a journal an opening replays.
+ghost use Rattle.std.specs.Prelude.{◌≡◌, Some, Decides};
+ghost use Rattle.halls.specs.Courses.{EndsAt};
+
 use device::Device;
 use exchange::state::Exchange;
 use image::sectors::MOST_SECTORS;
@@ -19,7 +22,9 @@ pub(crate) struct Course {
 
 impl Course {
     /// An opening that is refused at once.
-    pub(crate) fn refused(fault: ExchangeFault) -> Course {
+    pub(crate) fn refused(fault: ExchangeFault) -> Course
+        ensures { (result.fault ≡ Some fault) × (result.last ≡ result.covered) }
+    {
         Course {
             covered: PageNumber(0),
             last: PageNumber(0),
@@ -28,7 +33,9 @@ impl Course {
     }
 
     /// Whether the opening is refused for what this sector of the journal holds.
-    pub(crate) fn ends_at(&self, sector: usize) -> bool {
+    pub(crate) fn ends_at(&self, sector: usize) -> bool
+        ensures { Decides result (EndsAt self.now sector) }
+    {
         self.fault
             .is_some_and(|fault| fault.origin == Origin::Exchange(sector))
     }

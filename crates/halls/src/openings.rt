@@ -1,6 +1,8 @@
 //! What an opening makes of an image.
 ghost use Rattle.std.specs.Prelude.{◌≡◌};
-ghost use Rattle.halls.specs.Openings.{taken_slot};
+ghost use Rattle.image.specs.Image.{bytes_of, seen};
+ghost use Rattle.journal.specs.Slots.{header_place};
+ghost use Rattle.halls.specs.Openings.{taken_slot, bytes_or_zeros};
 
 use crate::courses::{Course, replay_all};
 use crate::faults::HallFault;
@@ -48,8 +50,13 @@ fn taken<R: Rules>(zero: &Sector, one: &Sector, house: HouseNumber) -> Option<Sl
 }
 
 // The sector of a slot's header; zeros, which are no header, where it is torn.
-fn header_sector(image: &[u8], slot: Slot) -> Sector {
-    find(image, slot.header_sector()).unwrap_or([0; 512])
+fn header_sector(image: &[u8], slot: Slot) -> Sector
+    ensures { result ≡ bytes_or_zeros (bytes_of (seen image.now (header_place slot))) }
+{
+    match find(image, slot.header_sector()) {
+        Some(sector) => sector,
+        None => [0; 512],
+    }
 }
 
 // Opens an exchange of the market of these rules on the image.

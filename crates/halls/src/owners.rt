@@ -1,7 +1,8 @@
 //! Whose snapshots an image holds.
-ghost use Rattle.std.specs.Prelude.{◌≡◌};
+ghost use Rattle.std.specs.Prelude.{◌≡◌, IfOk};
 ghost use Rattle.journal.specs.Slots.{header_place};
-ghost use Rattle.halls.specs.Owners.{owner_at};
+ghost use Rattle.journal.specs.declared.slots.Slot.TheVariants.{Zero, One};
+ghost use Rattle.halls.specs.Owners.{owner_at, OwnersSo};
 
 use image::sectors::find;
 use journal::slots::Slot;
@@ -27,17 +28,26 @@ pub fn owner_of(image: &[u8], slot: Slot) -> Option<Owner>
     })
 }
 
+// The owners of two snapshots, each once.
+fn each_once(
+    heap: Global,
+    zero: Option<Owner>,
+    one: Option<Owner>,
+) -> Result<Vec<Owner>, AllocError>
+    ensures { IfOk result (λ owners. OwnersSo zero one owners.items) }
+{
+    match (zero, one) {
+        (None, None) => Ok(Vec::new(heap)),
+        (Some(x), Some(y)) if x != y => Vec::from_slice(heap, &[x, y]),
+        (Some(x), _) => Vec::from_slice(heap, &[x]),
+        (None, Some(y)) => Vec::from_slice(heap, &[y]),
+    }
+}
+
 /// Whose the snapshots of an image are, each once.
-pub(crate) fn owners_of(heap: Global, image: &[u8]) -> Result<Vec<Owner>, AllocError> {
-    let mut owners = Vec::new(heap);
+pub(crate) fn owners_of(heap: Global, image: &[u8]) -> Result<Vec<Owner>, AllocError>
+    ensures { IfOk result (λ owners. OwnersSo (owner_at image.now (header_place Zero)) (owner_at image.now (header_place One)) owners.items) }
+{
     let (zero, one) = (owner_of(image, Slot::Zero), owner_of(image, Slot::One));
-    if let Some(owner) = zero {
-        owners.push(owner)?;
-    }
-    if let Some(owner) = one
-        && zero != one
-    {
-        owners.push(owner)?;
-    }
-    Ok(owners)
+    each_once(heap, zero, one)
 }

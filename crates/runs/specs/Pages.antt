@@ -1,5 +1,5 @@
 -- How an exchange at work comes on. Assumes nothing.
-use Rattle.std.specs.Prelude.{◌≡◌, ℕ, suc, ◌+◌, [], length, vec_items, Ok, Err, Some, None, Option}
+use Rattle.std.specs.Prelude.{◌≡◌, ◌<◌, ◌⊎◌, ℕ, suc, ◌+◌, [], length, vec_items, vec_len, Ok, Err, Some, None, Option}
 use Rattle.market.specs.declared.interface.Market as market
 use Rattle.device.specs.declared.Device as device
 use Rattle.records.specs.Commands.{encoded}
@@ -12,6 +12,8 @@ use Rattle.protocol.specs.declared.tokens.ReceiptNumbers.{ReceiptNumbers}
 use Rattle.protocol.specs.Steps.{Stage, Write, Deliver}
 use Rattle.exchange.specs.declared.state.Exchange.{Exchange}
 use Rattle.exchange.specs.Views.{Called}
+use Rattle.runs.specs.declared.asks.Ask.{Ask}
+use Rattle.runs.specs.declared.asks.Ask.TheVariants as ask
 
 module _ {M D : Type 0} where
   -- the same commands staged, and as many pages, commands, notices and delivered ones
@@ -48,6 +50,10 @@ module _ {M D : Type 0} where
   abbrev pub Committed : Exchange M D → Exchange M D → Type 0
   Committed x y = (y.commands.0 ≡ x.commands.0 + length (vec_items x.staged)) × (vec_items y.staged ≡ [])
 
+  -- a full page is committed, and another one left as it is
+  abbrev pub CommittedFull : Exchange M D → Exchange M D → Type 0
+  CommittedFull x y = ((vec_len x.staged ≡ 16) × Committed x y) ⊎ ((vec_len x.staged < 16) × (y ≡ x))
+
   -- nothing waits, and a snapshot covers the last page
   abbrev pub AllCovered : Exchange M D → Type 0
   AllCovered x = NothingWaits x × (x.covered.0 ≡ x.pages.0)
@@ -67,3 +73,15 @@ module _ {M D : Type 0} (m : market.Ghosts M) (d : device.Ghosts D) where
   abbrev pub StagedOr : Exchange M D → Command → Option Refusal → Exchange M D → Type 0
   StagedOr x c None y = (n : CommandNumber) × Called m d x (Stage (encoded c) (Ok n)) y
   StagedOr x c (Some r) y = (f : ExchangeFault) × (f.reason ≡ r) × Called m d x (Stage (encoded c) (Err f)) y
+
+  -- A command is staged or refused. A page that is full then is committed.
+  pub record Taken (x : Exchange M D) (c : Command) (r : Option Refusal) (y : Exchange M D) : Type 0 where
+    pub from : Exchange M D
+    pub staged : StagedOr x c r from
+    pub then : CommittedFull from y
+
+  -- what is asked is done
+  abbrev pub Done : Exchange M D → Ask → Exchange M D → Type 0
+  Done x ask.Nothing y = y ≡ x
+  Done x ask.Commit y = Committed x y
+  Done x (ask.Take c) y = (r : Option Refusal) × Taken x c r y

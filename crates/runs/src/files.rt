@@ -1,4 +1,8 @@
 //! The files of an exchange, locked and read.
+ghost use Rattle.std.specs.Prelude.{IfOk, Ok, vec_items};
+ghost use Rattle.runs.specs.Files.{FilesOf};
+ghost use Rattle.runs.specs.Owners.{JudgedIn};
+
 use crate::faults::RunFault;
 use crate::owners::is_owned;
 use halls::files::{fault_of, image_of};
@@ -27,7 +31,9 @@ fn open_locked(rt: &HostRuntime, name: &str) -> Result<File, RunFault> {
 }
 
 // Sees that an exchange of this owner is in the image, or none; another's is refused.
-fn check_owner(heap: Global, name: &str, image: &[u8], owner: Owner) -> Result<bool, RunFault> {
+fn check_owner(heap: Global, name: &str, image: &[u8], owner: Owner) -> Result<bool, RunFault>
+    ensures { IfOk result (λ owned. JudgedIn owner image.now (Ok owned)) }
+{
     match is_owned(image, owner) {
         Ok(owned) => Ok(owned),
         Err(other) => Err(RunFault::Other(String::from_str(heap, name)?, other)),
@@ -35,7 +41,9 @@ fn check_owner(heap: Global, name: &str, image: &[u8], owner: Owner) -> Result<b
 }
 
 // Opens a file and reads its image, and whether the owner's exchange is in it; nothing is written.
-fn load(rt: &HostRuntime, name: &str, owner: Owner) -> Result<(Loaded, bool), RunFault> {
+fn load(rt: &HostRuntime, name: &str, owner: Owner) -> Result<(Loaded, bool), RunFault>
+    ensures { IfOk result (λ r. JudgedIn owner (vec_items r.0.image) (Ok r.1)) }
+{
     let file = open_locked(rt, name)?;
     let image = image_of(rt.alloc(), name, &file)?;
     let owned = check_owner(rt.alloc(), name, &image, owner)?;
@@ -50,7 +58,9 @@ pub(crate) enum Files {
 }
 
 // The two files of a mirror: the exchange is on one of them at least, and no other's on any.
-fn load_two(rt: &HostRuntime, names: (&str, &str), owner: Owner) -> Result<Files, RunFault> {
+fn load_two(rt: &HostRuntime, names: (&str, &str), owner: Owner) -> Result<Files, RunFault>
+    ensures { IfOk result (FilesOf owner) }
+{
     let (first, in_first) = load(rt, names.0, owner)?;
     let (second, in_second) = load(rt, names.1, owner)?;
     if first.image.len() != second.image.len() {
@@ -69,7 +79,9 @@ pub(crate) fn load_files(
     file: &str,
     mirror: Option<&str>,
     owner: Owner,
-) -> Result<Files, RunFault> {
+) -> Result<Files, RunFault>
+    ensures { IfOk result (FilesOf owner) }
+{
     let Some(other) = mirror else {
         return match load(rt, file, owner)? {
             (loaded, true) => Ok(Files::One(loaded)),

@@ -1,9 +1,5 @@
 //! Whether an image holds the exchange that is to run.
-ghost use Rattle.std.specs.Prelude.{◌≡◌};
-ghost use Rattle.journal.specs.Slots.{header_place};
-ghost use Rattle.journal.specs.declared.slots.Slot.TheVariants.{Zero, One};
-ghost use Rattle.halls.specs.Owners.{owner_at};
-ghost use Rattle.runs.specs.Owners.{Judged};
+ghost use Rattle.runs.specs.Owners.{Judged, JudgedIn};
 
 use halls::owners::{Owner, owner_of};
 use journal::slots::Slot;
@@ -23,7 +19,7 @@ fn judge(owner: Owner, zero: Option<Owner>, one: Option<Owner>) -> Result<bool, 
 
 /// Whether an image holds an exchange of this owner; where it holds one of another's alone, whose.
 pub(crate) fn is_owned(image: &[u8], owner: Owner) -> Result<bool, Owner>
-    ensures { Judged owner (owner_at image.now (header_place Zero)) (owner_at image.now (header_place One)) result }
+    ensures { JudgedIn owner image.now result }
 {
     judge(
         owner,

@@ -2,7 +2,7 @@
 ghost use Rattle.std.specs.Prelude.{◌≡◌, ◌<◌, OnOk, IfOk, Ok, vec_len};
 ghost use Rattle.protocol.specs.Steps.{Snapshot};
 ghost use Rattle.exchange.specs.Views.{Called};
-ghost use Rattle.runs.specs.Pages.{SameCounts, Counted, Written, Delivers, StagedOr, AllDelivered, NothingWaits, Committed, AllCovered};
+ghost use Rattle.runs.specs.Pages.{SameCounts, Counted, Written, Delivers, StagedOr, Taken, AllDelivered, NothingWaits, Committed, CommittedFull, AllCovered};
 
 use crate::faults::RunFault;
 use crate::floor::Floor;
@@ -25,7 +25,9 @@ impl<M: Market, D: Device, W: Write + Drop> Floor<M, D, W> {
         line: u64,
         reason: Refusal,
         fault: LineFault,
-    ) -> Result<(), RunFault> {
+    ) -> Result<(), RunFault>
+        ensures kept { self.new.exchange ≡ self.old.exchange }
+    {
         Ok(self.teller.tell_refused(line, reason, fault)?)
     }
 
@@ -157,15 +159,26 @@ impl<M: Market, D: Device, W: Write + Drop> Floor<M, D, W> {
         }
     }
 
+    // Commits a page that is full.
+    fn commit_full(&mut self) -> Result<(), RunFault>
+        ensures told { AllDelivered self.old.exchange → OnOk result (AllDelivered self.new.exchange) }
+        ensures room { OnOk result (vec_len self.new.exchange.staged < 16) }
+        ensures committed { OnOk result (CommittedFull self.old.exchange self.new.exchange) }
+    {
+        if self.exchange.status().staged == MOST_COMMANDS {
+            self.commit()?;
+        }
+        Ok(())
+    }
+
     /// Takes a command; a page is full at 16.
     pub(crate) fn take(&mut self, command: &Command) -> Result<Option<Refusal>, RunFault>
         ensures told { AllDelivered self.old.exchange → OnOk result (AllDelivered self.new.exchange) }
         ensures room { OnOk result (vec_len self.new.exchange.staged < 16) }
+        ensures taken { IfOk result (λ r. Taken M.Market D.Device self.old.exchange command.now r self.new.exchange) }
     {
         let refused = self.stage(command)?;
-        if self.exchange.status().staged == MOST_COMMANDS {
-            self.commit()?;
-        }
+        self.commit_full()?;
         Ok(refused)
     }
 

@@ -1,4 +1,10 @@
 //! The job.
+ghost use Rattle.std.specs.Prelude.{◌≡◌, ◌⊎◌, OnOk};
+ghost use Rattle.console.specs.Inputs.{held};
+ghost use Rattle.runs.specs.Asks.{Asks};
+ghost use Rattle.runs.specs.Pages.{Done};
+ghost use Rattle.runs.specs.declared.asks.Ask.{Ask};
+
 use crate::asks::{Ask, AskFault, ask_of};
 use crate::faults::RunFault;
 use crate::files::{Files, load_files};
@@ -39,23 +45,38 @@ pub struct Run<'w> {
     pub format: Format,
 }
 
-// Takes a line: a command is staged, or refused and told of.
-fn take_line<M: Market, D: Device, W: Write + Drop>(
-    heap: Global,
+// Does what a line asks for: a command is staged, or refused and told of.
+fn do_ask<M: Market, D: Device, W: Write + Drop>(
     floor: &mut Floor<M, D, W>,
     line: u64,
-    buffer: &LineBuffer,
-) -> Result<(), RunFault> {
-    match ask_of(heap, buffer) {
-        Ok(Ask::Nothing) => Ok(()),
-        Ok(Ask::Commit) => floor.commit(),
-        Ok(Ask::Take(command)) => match floor.take(&command)? {
+    ask: Ask,
+) -> Result<(), RunFault>
+    ensures { OnOk result (Done M.Market D.Device floor.old.exchange ask floor.new.exchange) }
+{
+    match ask {
+        Ask::Nothing => Ok(()),
+        Ask::Commit => floor.commit(),
+        Ask::Take(command) => match floor.take(&command)? {
             None => Ok(()),
             Some(Refusal::NumbersSpent) => {
                 floor.tell_refused(line, Refusal::NumbersSpent, LineFault::Spent)
             }
             Some(reason) => floor.tell_refused(line, reason, range_fault(&command)),
         },
+    }
+}
+
+// Takes a line; one that asks for nothing that can be done is told of.
+fn take_line<M: Market, D: Device, W: Write + Drop>(
+    heap: Global,
+    floor: &mut Floor<M, D, W>,
+    line: u64,
+    buffer: &LineBuffer,
+) -> Result<(), RunFault>
+    ensures { OnOk result ((floor.new.exchange ≡ floor.old.exchange) ⊎ ((ask : Ask) × Asks (held buffer.now) ask × Done M.Market D.Device floor.old.exchange ask floor.new.exchange)) }
+{
+    match ask_of(heap, buffer) {
+        Ok(ask) => do_ask(floor, line, ask),
         Err(AskFault::Line(fault)) => floor.tell_refused(line, Refusal::NotACommand, fault),
         Err(AskFault::NoMemory) => Err(RunFault::NoMemory),
     }
