@@ -32,7 +32,10 @@ impl Tally {
         let traded = u64::from(notice.lots.0).wrapping_mul(u64::from(notice.price.0));
         let members = u64::from(notice.a.member.0).wrapping_add(u64::from(notice.b.member.0));
         let orders = notice.a.order.0.wrapping_add(notice.b.order.0);
-        let command = notice.command.0.wrapping_add(notice.kind as u64);
+        let command = notice
+            .command
+            .0
+            .wrapping_add(u64::from(notice.kind.number()));
         let word = traded
             .wrapping_add(members)
             .wrapping_add(orders)

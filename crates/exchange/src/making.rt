@@ -1,5 +1,5 @@
 //! A new exchange, and what can be asked of one.
-ghost use Rattle.std.specs.Prelude.{◌≡◌, IfOk, vec_len};
+ghost use Rattle.std.specs.Prelude.{◌≡◌, IfOk, vec_len, vec_capacity};
 ghost use Rattle.protocol.specs.Worlds.{rules_of};
 ghost use Rattle.protocol.specs.Steps.{reset};
 ghost use Rattle.exchange.specs.Views.{view};
@@ -33,7 +33,7 @@ pub struct Status {
 impl<M: Market, D: Device + Drop> Exchange<M, D> {
     /// A new exchange, which is reset, with all the memory that it will need.
     pub fn new(heap: Global, house: HouseNumber, device: D) -> Result<Exchange<M, D>, AllocError>
-        ensures { IfOk result (λ x. (view M.Market D.Device x ≡ reset (record { house = house; size = (D.meaning device).size; rules = rules_of M.Market }) (D.meaning device)) × (x.device ≡ device)) }
+        ensures { IfOk result (λ x. (view M.Market D.Device x ≡ reset (record { house = house; size = (D.meaning device).size; rules = rules_of M.Market }) (D.meaning device)) × (x.device ≡ device) × (vec_capacity x.staged ≡ 16)) }
     {
         Ok(Exchange {
             house,

@@ -37,9 +37,9 @@ fn first_behind<R: Ranking<T>, T>(ranking: &R, xs: &[T], x: &T) -> Option<usize>
 }
 
 impl OrderTable {
-    /// No orders, and the memory for 32.
+    /// No orders, and the memory for 32, no less and no more.
     pub fn with_room(heap: Global) -> Result<OrderTable, AllocError>
-        ensures { IfOk result (λ t. (rows t ≡ []) × (32 ≤ vec_capacity t.rows)) }
+        ensures { IfOk result (λ t. (rows t ≡ []) × (vec_capacity t.rows ≡ 32)) }
     {
         Ok(OrderTable {
             rows: Vec::with_capacity(heap, MOST_ORDERS)?,

@@ -1,6 +1,14 @@
--- Notices and their numbers.
+-- Notices, their kinds and their numbers.
 use Rattle.std.specs.Prelude.{ℕ, ◌+◌, List, [], ◌∷◌, ◌++◌, take, drop}
+use Rattle.records.specs.declared.notices.Kind.{Kind}
+use Rattle.records.specs.declared.notices.Kind.TheVariants.{Fill, Dropped, Cancelled}
 use Rattle.records.specs.declared.notices.Notice.{Notice}
+
+-- what happened to the lots of a notice, by its number
+abbrev pub kind_of_notice : Kind → ℕ
+kind_of_notice Fill = 1
+kind_of_notice Dropped = 2
+kind_of_notice Cancelled = 3
 
 -- the notice under number n
 abbrev pub numbered : ℕ → Notice → Notice

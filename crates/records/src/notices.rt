@@ -1,7 +1,10 @@
 //! What the exchange tells its members.
+ghost use Rattle.std.specs.Prelude.{◌≡◌};
+ghost use Rattle.records.specs.Notices.{kind_of_notice};
+
 use crate::numbers::{CommandNumber, Lots, Member, NoticeNumber, Price};
 
-/// What happened to the lots of a notice. Its numbers are 1, 2 and 3.
+/// What happened to the lots of a notice.
 #[derive(Clone, Copy, PartialEq, Eq, Debug, Default)]
 pub enum Kind {
     /// They changed hands: `a` bought them and `b` sold them.
@@ -11,6 +14,15 @@ pub enum Kind {
     Dropped = 2,
     /// Their member took them back.
     Cancelled = 3,
+}
+
+impl Kind {
+    /// The kind's number, 1 to 3.
+    pub fn number(self) -> u8
+        ensures { result ≡ kind_of_notice self }
+    {
+        self as u8
+    }
 }
 
 /// One side of a notice: an order and its member; both 0 where the notice has no such side.
