@@ -5,6 +5,5 @@ pub mod Pages
 pub mod Entries
 pub mod Told
 pub mod Verdicts
-pub mod Growth
 pub mod Promising
 pub mod Reading

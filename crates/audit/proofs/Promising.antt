@@ -14,7 +14,7 @@ use Rattle.audit.specs.Readings.{Reads}
 use Rattle.audit.specs.declared.readings.Reader.{Reader}
 use Rattle.audit.proofs.Openings.{serves_kept, kept_serves}
 use Rattle.audit.proofs.Deliveries.{covered_no_gap, no_gap_covered}
-use Rattle.audit.proofs.Growth.{grows}
+use Rattle.protocol.proofs.Growth.{grows}
 
 module _ {M D : Type 0} (m : market.Ghosts M) (d : device.Ghosts D) (x : Exchange M D) where
   abbrev size : ℕ

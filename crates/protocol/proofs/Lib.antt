@@ -11,5 +11,6 @@ pub mod Choosing
 pub mod Openings
 pub mod Snapshots
 pub mod Setting
+pub mod Growth
 pub mod Main
 pub mod Witnesses
