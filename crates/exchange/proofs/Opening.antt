@@ -20,7 +20,7 @@ module _ {S : Type 0} (w : World S) (x x' : State S) (n : Meaning) (s : S) where
   not_taken f e h l q = l ∙ ap Err (sym q)
 
   pub open_fails : (f : JournalFault) (e : ExchangeFault) → Allowed (open_reasons w x) → Lawful n → Opens w x.device (Err f) n s → e ≡ of_journal f → x' ≡ reset w n → Fails w (open_reasons w x) (OpenFails w x) e x x'
-  open_fails (fault.Device (Cut t)) e a l o q r = broke a n l (inl (o.0, (t, q, o.1))) r
+  open_fails (fault.Device (Cut t)) e a l o q r = broke a n l (inl (t, q, o)) r
   open_fails (fault.Device (OutOfRange t)) e a l o q r = absurd o
   open_fails (fault.Device (Torn t)) e a l o q r = broke a n l (inr (inr (o.did, (o.head, o.chosen, not_taken (fault.Device (Torn t)) e o.head o.load q)))) r
   open_fails fault.NoHeader e a l o q r = broke a n l (inr (inl (q, o.0, o.1))) r

@@ -24,8 +24,8 @@ use Rattle.protocol.specs.declared.faults.JournalFault.{JournalFault}
 use Rattle.protocol.specs.declared.faults.JournalFault.TheVariants.{NoHeader}
 use Rattle.protocol.specs.Faults.{from_device}
 use Rattle.protocol.specs.Worlds.{World, blank, body_at}
-use Rattle.protocol.specs.Steps.{shown, first_header}
-use Rattle.journal_io.specs.Readings.{Fetched, BodyRead, FirstTorn, at_first, at_second, at_third, HeaderRead, Chose, body_reads}
+use Rattle.protocol.specs.Steps.{body_reads, shown, first_header}
+use Rattle.journal_io.specs.Readings.{Fetched, BodyRead, FirstTorn, at_first, at_second, at_third, HeaderRead, Chose}
 
 pub body_within : (t : Slot) (size : ℕ) → 9 ≤ size → body_place t + 2 < size
 body_within Zero size h = omega arith

@@ -11,6 +11,7 @@ use Rattle.protocol.specs.declared.faults.JournalFault.TheVariants as fault
 use Rattle.protocol.specs.Faults.{from_device}
 use Rattle.protocol.specs.Worlds.{blank}
 use Rattle.protocol.specs.Steps.{blanks}
+use Rattle.protocol.proofs.Devices.{then_cut}
 use Rattle.journal_io.specs.Running.{Running}
 
 pub cut_append : (m n : Meaning) (xs ys : List Operation) (s : ℕ) → CutIn m xs s n → CutIn m (xs ++ ys) s n
@@ -21,10 +22,6 @@ cut_append m n (o ∷ xs) ys s (inr (k, l, p, c)) = inr (k, l, p, cut_append k n
 pub ran_append : (m k n : Meaning) (xs ys : List Operation) → Ran m xs k → Ran k ys n → Ran m (xs ++ ys) n
 ran_append m k n [] ys e h = subst (λ z. Ran z ys n) e h
 ran_append m k n (o ∷ xs) ys (q, l, p, r) h = (q, l, p, ran_append q k n xs ys r h)
-
-pub then_cut : (m k n : Meaning) (xs ys : List Operation) (s : ℕ) → Ran m xs k → CutIn k ys s n → CutIn m (xs ++ ys) s n
-then_cut m k n [] ys s e h = subst (λ z. CutIn z ys s n) e h
-then_cut m k n (o ∷ xs) ys s (q, l, p, r) h = inr (q, l, p, then_cut q k n xs ys s r h)
 
 -- two rows: the first all made, then the second; or the first cut
 pub running_append : (m k n : Meaning) (xs ys : List Operation) (r : Result (Unit {0}) JournalFault) → Ran m xs k → Running k ys r n → Running m (xs ++ ys) r n

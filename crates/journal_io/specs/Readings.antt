@@ -4,17 +4,14 @@ use Rattle.records.specs.Headers.{counts_good}
 use Rattle.device.specs.Meaning.{Meaning, bytes, torn}
 use Rattle.device.specs.Runs.{CutIn}
 use Rattle.device.specs.declared.fault.DeviceFault.TheVariants.{OutOfRange, Cut, Torn}
-use Rattle.device.specs.declared.run.Operation.{Operation}
 use Rattle.device.specs.declared.run.Operation.TheVariants as op
-use Rattle.journal.specs.Slots.{header_place}
 use Rattle.journal.specs.declared.slots.Slot.{Slot}
-use Rattle.journal.specs.declared.slots.Slot.TheVariants.{Zero, One}
 use Rattle.journal.specs.declared.choosing.SlotHeader.{SlotHeader}
 use Rattle.protocol.specs.declared.faults.JournalFault.{JournalFault}
 use Rattle.protocol.specs.declared.faults.JournalFault.TheVariants as fault
 use Rattle.protocol.specs.Faults.{of_journal}
 use Rattle.protocol.specs.Worlds.{Rules, World, blank, body_at}
-use Rattle.protocol.specs.Steps.{first_header, loaded}
+use Rattle.protocol.specs.Steps.{header_reads, body_reads, first_header, loaded}
 
 -- a sector's bytes, or none where it is torn; a cut is told, and no other fault comes
 abbrev pub Fetched : Meaning → ℕ → Result (Option (List ℕ)) JournalFault → Meaning → Type 0
@@ -27,12 +24,6 @@ Fetched m at (Err fault.NoHeader) n = ⊥
 Fetched m at (Err (fault.Refused s)) n = ⊥
 Fetched m at (Err (fault.OtherLast s)) n = ⊥
 Fetched m at (Err (fault.BadPage s)) n = ⊥
-
-abbrev pub header_reads : List Operation
-header_reads = op.Read (header_place Zero) ∷ op.Read (header_place One) ∷ []
-
-abbrev pub body_reads : Slot → List Operation
-body_reads t = op.Read (body_at t 0) ∷ op.Read (body_at t 1) ∷ op.Read (body_at t 2) ∷ []
 
 -- the first in rank of the good headers, whose counts go together; or none
 abbrev pub Chose : {S : Type 0} → World S → Meaning → Result SlotHeader JournalFault → Meaning → Type 0

@@ -37,10 +37,6 @@ snapshot_writes t b h = op.Write (body_at t 0) (piece b 0) ∷ op.Write (body_at
 abbrev pub first_writes : List Operation
 first_writes = op.Wake ∷ op.Write 0 blank ∷ op.Write 4 blank ∷ []
 
--- the device is woken, and synced
-abbrev pub wake_and_sync : List Operation
-wake_and_sync = op.Wake ∷ op.Sync ∷ []
-
 -- a page goes to its sector
 abbrev pub page_writes : ℕ → PageHead → List Command → List Operation
 page_writes size h cs = op.Write (page_place size h.number.0) (page_sector_bytes (page_of h cs)) ∷ []

@@ -3,7 +3,8 @@ ghost use Rattle.std.specs.Prelude.{◌≡◌, ◌≤◌};
 ghost use Rattle.protocol.specs.Worlds.{rules_of};
 ghost use Rattle.journal_io.specs.Opening.{Takes, Opens};
 ghost use Rattle.journal_io.specs.Readings.{BodyRead, Took, TakenBy};
-ghost use Rattle.journal_io.specs.Running.{Running, wake_and_sync};
+ghost use Rattle.protocol.specs.Steps.{wake_ops};
+ghost use Rattle.journal_io.specs.Running.{Running};
 
 use crate::reading::choose_header;
 use crate::writing::perform_all;
@@ -69,7 +70,7 @@ pub fn load_body<M: Market, D: Device>(
 
 // Wakes the device, and syncs it.
 fn wake_up<D: Device>(device: &mut D) -> Result<(), JournalFault>
-    ensures did { Running (D.meaning device.old) wake_and_sync result (D.meaning device.new) }
+    ensures did { Running (D.meaning device.old) wake_ops result (D.meaning device.new) }
     ensures kept { D.lender device.new ≡ D.lender device.old }
 {
     perform_all(device, &[Operation::Wake, Operation::Sync])

@@ -91,6 +91,11 @@ pub ran_size : (m n : Meaning) (os : List Operation) → runs.Ran m os n → n.s
 ran_size m n [] e = ap (λ (z : Meaning). z.size) e
 ran_size m n (o ∷ os) (k, l, p, r) = ran_size k n os r ∙ performed_size m k o p
 
+-- calls that were made, and then a row that is cut
+pub then_cut : (m k n : Meaning) (xs ys : List Operation) (s : ℕ) → runs.Ran m xs k → runs.CutIn k ys s n → runs.CutIn m (xs ++ ys) s n
+then_cut m k n [] ys s e h = subst (λ z. runs.CutIn z ys s n) e h
+then_cut m k n (o ∷ xs) ys s (q, l, p, r) h = inr (q, l, p, then_cut q k n xs ys s r h)
+
 -- a run of one call
 pub one_did : (m n : Meaning) (o : Operation) → InsideOf m.size o → runs.Ran m (o ∷ []) n → Did m o n
 one_did m n o u (k, l, p, e) = subst (Did m o) (sym e) (did m k o u l p)

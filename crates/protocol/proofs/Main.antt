@@ -1,23 +1,24 @@
 -- Every run keeps the promises.
-use Rattle.std.proofs.Common.{◌≡◌, ℕ, ◌<◌, ◌≤◌, Bool, true, false, cond, ◌&&◌, eqb, ltb, ◌≢◌, ◌⊎◌, List, [], ◌∷◌, ◌++◌, length, Some, None, Ok, Err, Option, sym, refl, ap, ◌∙◌, subst, inl, inr, append_assoc, append-nil, arith, eq-eqb, ne_eqb}
+use Rattle.std.proofs.Common.{◌≡◌, ℕ, ◌<◌, ◌≤◌, Bool, true, false, cond, ◌≢◌, List, [], ◌∷◌, ◌++◌, Some, None, Ok, Err, Option, sym, refl, ap, ◌∙◌, subst, inl, inr, append_assoc, append-nil, arith, eq-eqb, ne_eqb}
 use Rattle.std.proofs.lemmas.Option.{same_Some}
 use mathlib.Core.List.{Memᴰ}
 use native.Mathlib.Decide.{dec_le}
 use Rattle.records.specs.declared.notices.Notice.{Notice}
 use Rattle.records.specs.declared.numbers.HouseNumber.{HouseNumber}
 use Rattle.records.specs.declared.numbers.PageNumber.{PageNumber}
-use Rattle.device.specs.Meaning.{Meaning}
+use Rattle.device.specs.Meaning.{Meaning, Lawful}
 use Rattle.protocol.specs.declared.phases.Phase.{Phase}
 use Rattle.protocol.specs.declared.phases.Phase.TheVariants.{Live, Written, Dark, Replaying}
 use Rattle.protocol.specs.declared.faults.ExchangeFault.{ExchangeFault}
 use Rattle.device.specs.declared.run.Operation.TheVariants as op
 use Rattle.protocol.specs.Faults.{reason_of, cut_at}
 use Rattle.protocol.specs.Worlds.{Rules, World, Fits}
-use Rattle.protocol.specs.Steps.{Handed, Event, Stage, Write, Sync, Deliver, Shelve, Snapshot, Restart, Open, Replay, State, phase_number, reset, next_sector, set_up_ops, open_ops, open_reasons, stage_reasons, write_reasons, sync_reasons, deliver_reasons, snapshot_reasons, replay_reasons, refused, broke, Step, SetUp, world_of, SetsUp}
-use Rattle.protocol.specs.Promises.{History, Pages, Sent, Ledger, added, sends, empties, is_cut, note, ledger, recorded, highest_delivered, CalmEvent, Calm, handed_by, handed_out, DeliveredIn, Recovers, record_notices, OfRecord, Kept, EachKept, RunsOver, Promises, Run, PromisesHold}
+use Rattle.protocol.specs.Steps.{Handed, Event, Stage, Write, Sync, Deliver, Shelve, Snapshot, Restart, Open, Replay, State, phase_number, reset, next_sector, set_up_ops, wake_ops, header_reads, body_reads, OpenCut, early, in_body, open_reasons, stage_reasons, write_reasons, sync_reasons, deliver_reasons, snapshot_reasons, replay_reasons, refused, broke, Step, SetUp, world_of, SetsUp}
+use Rattle.protocol.specs.Promises.{History, Pages, Ledger, sends, empties, is_cut, note, ledger, recorded, highest_delivered, CalmEvent, Calm, handed_by, handed_out, DeliveredIn, Recovers, record_notices, OfRecord, Kept, EachKept, RunsOver, Promises, Run, PromisesHold, Grew}
 use Rattle.protocol.specs.Witness.{MarketLaws}
-use Rattle.protocol.proofs.Devices.{one_cut, ran_size, only_cut}
+use Rattle.protocol.proofs.Devices.{one_cut, ran_size, only_cut, then_cut}
 use Rattle.protocol.proofs.Codecs.{Laws, laws_of}
+use Rattle.protocol.proofs.Growth.{grows}
 use Rattle.protocol.proofs.Reasons.{writes, may_deliver, snapshots, may_open, may_replay, Ordinary, ordinary}
 use Rattle.protocol.proofs.Safe.{cut_whole}
 use Rattle.protocol.proofs.Watches.{Opening, Watch, more, watch_sends, watch_broken, watch_note, watch, same_kept, same_highest}
@@ -26,41 +27,6 @@ use Rattle.protocol.proofs.Calls.{cut_still, staged_keeps, wrote_keeps, write_cu
 use Rattle.protocol.proofs.Openings.{opened_keeps, never_17, never_18, never_19, replays, caught_up_keeps, caught_up_handed}
 use Rattle.protocol.proofs.Snapshots.{snapshot_cut, snapshot_keeps}
 use Rattle.protocol.proofs.Setting.{set_up_inv}
-
--- the record grows by the sent page, or not at all
-abbrev Grows : Ledger → Pages → Type 0
-Grows l kept = (kept ≡ l.kept) ⊎ ((s : Sent) × (l.sent ≡ Some s) × (kept ≡ l.kept ++ (s.page ∷ [])))
-
-added_grows : (l : Ledger) (n : ℕ) (sent : Option Sent) → l.sent ≡ sent → Grows l (added n sent l.kept)
-added_grows l n None e = inl refl
-added_grows l n (Some s) e = go (eqb n s.number && ltb (length l.kept) s.number)
-  where
-    go : (b : Bool) → Grows l (cond b (l.kept ++ (s.page ∷ [])) l.kept)
-    go true = inr (s, e, refl)
-    go false = inl refl
-
-stays : (b : Bool) (k l : Ledger) → k.kept ≡ l.kept → Grows l (cond b k l).kept
-stays true k l e = inl e
-stays false k l e = inl refl
-
-grows : (e : Event) (l : Ledger) → Grows l (note e l).kept
-grows (Stage bs (Ok n)) l = inl refl
-grows (Stage bs (Err f)) l = stays (is_cut f) (empties l) l refl
-grows (Write (Ok t)) l = inl refl
-grows (Write (Err f)) l = stays (is_cut f) (sends l) l refl
-grows (Sync t room (Ok h)) l = added_grows l h.receipt.page.0 l.sent refl
-grows (Sync t room (Err f)) l = stays (is_cut f) (empties l) l refl
-grows (Deliver r (Ok u)) l = inl refl
-grows (Deliver r (Err f)) l = stays (is_cut f) (empties l) l refl
-grows (Shelve r) l = inl refl
-grows (Snapshot (Ok u)) l = inl refl
-grows (Snapshot (Err f)) l = stays (is_cut f) (empties l) l refl
-grows Restart l = inl refl
-grows (Open (Ok p)) l = inl refl
-grows (Open (Err f)) l = stays (is_cut f) (empties l) l refl
-grows (Replay room (Ok (Some h))) l = added_grows l h.receipt.page.0 l.sent refl
-grows (Replay room (Ok None)) l = inl refl
-grows (Replay room (Err f)) l = stays (is_cut f) (empties l) l refl
 
 -- a cut is told as 15
 cut_15 : (f : ExchangeFault) (s : ℕ) → f ≡ cut_at s → reason_of f ≡ 15
@@ -105,9 +71,9 @@ module _ {S : Type 0} (w : World S) (laws : Laws w) where
   each_grows kept more [] k = k
   each_grows kept more (e ∷ h) (k, ks) = (kept_grows kept more e k, each_grows kept more h ks)
 
-  each_after : (l : Ledger) (kept : Pages) (h : History) → Grows l kept → EachKept w l.kept h → EachKept w kept h
-  each_after l kept h (inl e) k = subst (λ z. EachKept w z h) (sym e) k
-  each_after l kept h (inr (s, i, e)) k = subst (λ z. EachKept w z h) (sym e) (each_grows _ (s.page ∷ []) h k)
+  each_after : (l l' : Ledger) (h : History) → Grew l l' → EachKept w l.kept h → EachKept w l'.kept h
+  each_after l l' h (inl e) k = subst (λ z. EachKept w z h) (sym e) k
+  each_after l l' h (inr (s, i, e)) k = subst (λ z. EachKept w z h) (sym e) (each_grows _ (s.page ∷ []) h k)
 
   -- a fault that leaves all as it was, and one that resets
   same : {l : Watch} {x x' : State S} (f : ExchangeFault) (b : Watch) → Ordinary f → x' ≡ x → Inv w laws l x → Inv w laws (cond (is_cut f) b l) x'
@@ -115,6 +81,16 @@ module _ {S : Type 0} (w : World S) (laws : Laws w) where
 
   falls : {x' : State S} (l : Watch) (f : ExchangeFault) (s : ℕ) (b : Watch) (m : Meaning) → f ≡ cut_at s → x' ≡ reset w m → Inv w laws b (reset w m) → Inv w laws (cond (is_cut f) b l) x'
   falls l f s b m p e i = rw (eq-eqb (reason_of f) 15 (cut_15 f s p)) (subst (Inv w laws b) (sym e) i)
+
+  -- an opening that is cut has written nothing
+  open_cut_keeps : {l : Watch} {x : State S} → Inv w laws l x → (m : Meaning) (s : ℕ) → Lawful m → OpenCut w x.device s m → Inv w laws (watch_broken l) (reset w m)
+  open_cut_keeps {l} {x} i m s h (early c) =
+      let k = stills_cut w laws x.device m (wake_ops ++ header_reads) (tt, (tt, (tt, (tt, tt)))) (whole_of w laws i) (one_cut x.device m (wake_ops ++ header_reads) s (tt, (tt, (tt, (tt, tt)))) h c) in
+      still_cut_keeps w laws m k.0 k.1 i
+  open_cut_keeps {l} {x} i m s h (in_body n r g e c) =
+      let ops = wake_ops ++ body_reads g.slot in
+      let k = stills_cut w laws x.device m ops (tt, (tt, (tt, (tt, (tt, tt))))) (whole_of w laws i) (one_cut x.device m ops s (tt, (tt, (tt, (tt, (tt, tt))))) h (then_cut x.device n m wake_ops (body_reads g.slot) s r c)) in
+      still_cut_keeps w laws m k.0 k.1 i
 
   -- one event more
   keeps : {l : Watch} {x x' : State S} (e : Event) → Inv w laws l x → Step w x e x' → Inv w laws (watch_note e l) x'
@@ -140,9 +116,7 @@ module _ {S : Type 0} (w : World S) (laws : Laws w) where
   keeps Restart i s = restarted_keeps w laws i s
   keeps (Open (Ok p)) i s = opened_keeps w laws p i s
   keeps {l} {x} (Open (Err f)) i (refused r a q e) = same f (watch_broken l) (ordinary (open_reasons w x) (omega arith) f r a q) e i
-  keeps {l} {x} (Open (Err f)) i (broke a m h (inl (t, (s, q, c))) e) =
-      let k = stills_cut w laws x.device m (open_ops w t) (tt, (tt, (tt, (tt, (tt, (tt, (tt, tt))))))) (whole_of w laws i) (one_cut x.device m (open_ops w t) s (tt, (tt, (tt, (tt, (tt, (tt, (tt, tt))))))) h c) in
-      falls l f s (watch_broken l) m q e (still_cut_keeps w laws m k.0 k.1 i)
+  keeps {l} {x} (Open (Err f)) i (broke a m h (inl (s, q, c)) e) = falls l f s (watch_broken l) m q e (open_cut_keeps i m s h c)
   keeps {l} {x} (Open (Err f)) i (broke a m h (inr (inl y)) e) = absurd (never_17 w laws f m (at_phase w laws Dark (may_open w laws x a) i) y)
   keeps {l} {x} (Open (Err f)) i (broke a m h (inr (inr y)) e) = absurd (never_18 w laws f m (at_phase w laws Dark (may_open w laws x a) i) y)
   keeps {l} {x} (Replay room (Ok (Some h))) i s = (replays w laws room h i (at_phase w laws Replaying (may_replay w laws x room s.allowed) i) s).keeps
@@ -168,7 +142,7 @@ module _ {S : Type 0} (w : World S) (laws : Laws w) where
   kept x' Restart i s = tt
   kept x' (Open (Ok p)) i s = tt
   kept {l} {x} x' (Open (Err f)) i (refused r a q e) = let p = ordinary (open_reasons w x) (omega arith) f r a q in (p.1, p.2, p.3)
-  kept x' (Open (Err f)) i (broke a m h (inl (t, (s, q, c))) e) = recovers_15 f s q
+  kept x' (Open (Err f)) i (broke a m h (inl (s, q, c)) e) = recovers_15 f s q
   kept {l} {x} x' (Open (Err f)) i (broke a m h (inr (inl y)) e) = absurd (never_17 w laws f m (at_phase w laws Dark (may_open w laws x a) i) y)
   kept {l} {x} x' (Open (Err f)) i (broke a m h (inr (inr y)) e) = absurd (never_18 w laws f m (at_phase w laws Dark (may_open w laws x a) i) y)
   kept {l} {x} x' (Replay room (Ok (Some h))) i s = (replays w laws room h i (at_phase w laws Replaying (may_replay w laws x room s.allowed) i) s).true_receipt
@@ -181,7 +155,7 @@ module _ {S : Type 0} (w : World S) (laws : Laws w) where
   walk_inv [] x (earlier, s) = (set_up_inv w laws earlier s, tt)
   walk_inv (e ∷ h) x' (x, r, s) =
       let (i, k) = walk_inv h x r in
-      (keeps e i s, (subst (λ z. Kept w z e) (same_kept (e ∷ h)) (kept x' e i s), each_after (ledger h) _ h (grows e (ledger h)) k))
+      (keeps e i s, (subst (λ z. Kept w z e) (same_kept (e ∷ h)) (kept x' e i s), each_after (ledger h) (note e (ledger h)) h (grows e (ledger h)) k))
 
   -- an opening that goes on: the exchange is not dark, and every receipt's notices are handed out in it
   quiet : (o : Option Opening) (a : ℕ) (ns : List Notice) → o ≡ Some (record { above = a; handed = ns }) → o ≡ Some (record { above = a; handed = ns ++ [] })

@@ -45,7 +45,7 @@ module _ {S : Type 0} (w : World S) (laws : Laws w) where
       let h₁ = did_whole w laws h d₁ in
       subst (λ z. Whole w laws z × Shrinks w laws m₀ z × Single w laws z) (sym e) (did_whole w laws h₁ d₂, λ t r a. did_still w laws tt h d₁ t r (did_still w laws tt h₁ d₂ t r a), synced_single w laws h₁ d₂)
 
-  woken : (x : State S) (m : Meaning) → runs.Ran x.device (wake_ops w) m → Ran x.device (op.Wake ∷ op.Sync ∷ []) m
+  woken : (x : State S) (m : Meaning) → runs.Ran x.device wake_ops m → Ran x.device (op.Wake ∷ op.Sync ∷ []) m
   woken x m d = all_did x.device m (op.Wake ∷ op.Sync ∷ []) (tt, (tt, tt)) d
 
   loads : (m : Meaning) (s : SlotHeader) (f : Pages) → Whole w laws m → Saved w laws m s.slot f → w.rules.count (market_after w f) ≡ s.header.commands.0 → loaded w m s ≡ Ok (market_after w f)
@@ -85,7 +85,7 @@ module _ {S : Type 0} (w : World S) (laws : Laws w) where
     chosen_loads {s} c = loads m s f v.safe.whole (subst (λ z. Saved w laws m z f) (sym (chosen_slot c)) v.safe.body) (front_last w laws v.safe ∙ sym (ap (λ (h : Header). h.commands.0) (chosen_head c)))
 
   -- what a dark exchange wakes to
-  wakes : {l : Watch} {x : State S} {m : Meaning} → AtDark w laws l x → runs.Ran x.device (wake_ops w) m → (t : Slot) × (f : Pages) × Rested w laws l.kept l.sent l.highest m t f
+  wakes : {l : Watch} {x : State S} {m : Meaning} → AtDark w laws l x → runs.Ran x.device wake_ops m → (t : Slot) × (f : Pages) × Rested w laws l.kept l.sent l.highest m t f
   wakes {l} {x} {m} v d =
       let k = woke x.device m v.safe.whole (woken x m d) in
       let c = covers_shrinks w laws {l = l} {m = x.device} {m' = m} k.0 k.1 (covers w laws l x Dark v) in

@@ -325,7 +325,7 @@ first_page = (
         ),
         record { allowed = refl; ticket = refl; device = disk true f₂; did = ran (write_ops W x₁) f₁ (omega arith, page_length 1 1 (an_order ∷ []) one_fits, tt) sized₁; result = refl },
       ),
-      record { allowed = refl; device = disk true f₂; did = ran (sync_ops W) f₂ tt sized₂; answer = refl; notices = refl; result = refl },
+      record { allowed = refl; device = disk true f₂; did = ran sync_ops f₂ tt sized₂; answer = refl; notices = refl; result = refl },
     ),
     record { allowed = refl; result = refl },
   ),

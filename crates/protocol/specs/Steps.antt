@@ -88,6 +88,19 @@ abbrev pub blanks : ℕ → ℕ → List Operation
 blanks s zero = []
 blanks s (suc n) = op.Write s blank ∷ blanks (suc s) n
 
+-- a sync, a wake with its sync, the two headers read, and a slot's body read
+abbrev pub sync_ops : List Operation
+sync_ops = op.Sync ∷ []
+
+abbrev pub wake_ops : List Operation
+wake_ops = op.Wake ∷ op.Sync ∷ []
+
+abbrev pub header_reads : List Operation
+header_reads = op.Read (header_place Zero) ∷ op.Read (header_place One) ∷ []
+
+abbrev pub body_reads : Slot → List Operation
+body_reads t = op.Read (body_at t 0) ∷ op.Read (body_at t 1) ∷ op.Read (body_at t 2) ∷ []
+
 module _ {S : Type 0} (w : World S) where
   -- Reset: dark, nothing staged, all other numbers 0 and the market fresh.
   abbrev pub reset : Meaning → State S
@@ -142,9 +155,6 @@ module _ {S : Type 0} (w : World S) where
   abbrev pub read_ops : State S → List Operation
   read_ops x = op.Read (next_sector x) ∷ []
 
-  abbrev pub sync_ops : List Operation
-  sync_ops = op.Sync ∷ []
-
   abbrev pub body_ops : Slot → S → List Operation
   body_ops t s = op.Write (body_at t 0) (part w s 0) ∷ op.Write (body_at t 1) (part w s 1) ∷ op.Write (body_at t 2) (part w s 2) ∷ []
 
@@ -156,12 +166,6 @@ module _ {S : Type 0} (w : World S) where
 
   abbrev pub set_up_ops : List Operation
   set_up_ops = op.Wake ∷ op.Write 0 blank ∷ op.Write 4 blank ∷ (blanks 8 (journal w.size) ++ (body_ops Zero w.rules.start ++ seal_ops Zero 0 0 0))
-
-  abbrev pub wake_ops : List Operation
-  wake_ops = op.Wake ∷ op.Sync ∷ []
-
-  abbrev pub open_ops : Slot → List Operation
-  open_ops t = wake_ops ++ (op.Read (header_place Zero) ∷ op.Read (header_place One) ∷ op.Read (body_at t 0) ∷ op.Read (body_at t 1) ∷ op.Read (body_at t 2) ∷ [])
 
   -- the good header that a slot shows, and the first in rank of both
   abbrev pub shown : Reading → Option Header
@@ -295,6 +299,11 @@ module _ {S : Type 0} (w : World S) where
   abbrev pub CutShort : Meaning → List Operation → ExchangeFault → Meaning → Type 0
   CutShort before ops f m = (s : ℕ) × (f ≡ cut_at s) × CutIn before ops s m
 
+  -- an opening that is cut: up to the reading of the headers, or in the reading of the body of the header that it then chose
+  pub data OpenCut (m : Meaning) (s : ℕ) (n : Meaning) : Type 0 where
+    early : CutIn m (wake_ops ++ header_reads) s n → OpenCut m s n
+    in_body : (k : Meaning) → Ran m wake_ops k → (h : SlotHeader) → first_header k ≡ Some h → CutIn k (body_reads h.slot) s n → OpenCut m s n
+
   -- no good header can be read; the chosen body is torn, refused or of another command; the page looked for is not the next one
   abbrev pub NoHeaderFound : State S → ExchangeFault → Meaning → Type 0
   NoHeaderFound x f m = (f ≡ plain NoHeader) × Ran x.device wake_ops m × (first_header m ≡ None)
@@ -312,7 +321,7 @@ module _ {S : Type 0} (w : World S) where
     pub bad : (cs : List Command) → decoded_page content ≢ Some (page_of (page_head w (suc x.pages) (suc x.commands)) cs)
 
   abbrev pub OpenFails : State S → ExchangeFault → Meaning → Type 0
-  OpenFails x f m = ((t : Slot) × CutShort x.device (open_ops t) f m) ⊎ (NoHeaderFound x f m ⊎ BadBody x f m)
+  OpenFails x f m = ((s : ℕ) × (f ≡ cut_at s) × OpenCut x.device s m) ⊎ (NoHeaderFound x f m ⊎ BadBody x f m)
 
   abbrev pub ReplayFails : State S → ExchangeFault → Meaning → Type 0
   ReplayFails x f m = CutShort x.device (read_ops x) f m ⊎ BadPage x f m

@@ -7,11 +7,11 @@ returns-in_err-load_body-clause-did g c =
     let m = g.D.Device.meaning in
     let d = c.in_ok-first.ensures in
     let e = c.in_err-load_body.ensures in
-    takes_not c.args.house (rules_of g.M.Market) (m c.args.device.now) (m c.choose_header.new.device) (m c.load_body.new.device) (g.M.Market.means c.load_body.new.market) c.in_ok-first.first (g.D.Device.lawful c.args.device.now) d.did _ c.from_residual-in_err-load_body.result (e.did c.args.house) c.from_residual-in_err-load_body.ensures.1
+    takes_not c.args.house (rules_of g.M.Market) (m c.args.device.now) (m c.choose_header.new.device) (m c.load_body.new.device) (g.M.Market.means c.load_body.new.market) c.in_ok-first.first d.did _ c.from_residual-in_err-load_body.result (e.did c.args.house) c.from_residual-in_err-load_body.ensures.1
 
 pub returns-clause-did : goal.returns-clause-did
 returns-clause-did g c =
     let m = g.D.Device.meaning in
     let d = c.in_ok-first.ensures in
     let e = c.in_ok-load_body.ensures in
-    takes c.args.house (rules_of g.M.Market) (m c.args.device.now) (m c.choose_header.new.device) (m c.load_body.new.device) (g.M.Market.means c.load_body.new.market) c.in_ok-first.first (g.D.Device.lawful c.args.device.now) d.did (e.did c.args.house)
+    takes c.args.house (rules_of g.M.Market) (m c.args.device.now) (m c.choose_header.new.device) (m c.load_body.new.device) (g.M.Market.means c.load_body.new.market) c.in_ok-first.first d.did (e.did c.args.house)

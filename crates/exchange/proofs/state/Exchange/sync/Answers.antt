@@ -36,8 +36,8 @@ returns-in-Err-perform_all g c =
     let n = m c.perform_all.new.device in
     let e = c.in-Err-perform_all.ensures in
     record {
-      did = cut_off w (sync_reasons w x c.args.ticket.numbers (length c.args.list.now)) x (view g.M.Market g.D.Device c.reset_by.new.self) x.device n (sync_ops w) c.in-Err-perform_all.fault c.reset_by.result c.in-Ok.ensures.judged (g.D.Device.lawful c.perform_all.new.device) e.did c.reset_by.ensures.fault c.reset_by.ensures.reset;
-      back = cut_spends x.device n (sync_ops w) c.in-Err-perform_all.fault c.reset_by.result e.did c.reset_by.ensures.fault;
+      did = cut_off w (sync_reasons w x c.args.ticket.numbers (length c.args.list.now)) x (view g.M.Market g.D.Device c.reset_by.new.self) x.device n sync_ops c.in-Err-perform_all.fault c.reset_by.result c.in-Ok.ensures.judged (g.D.Device.lawful c.perform_all.new.device) e.did c.reset_by.ensures.fault c.reset_by.ensures.reset;
+      back = cut_spends x.device n sync_ops c.in-Err-perform_all.fault c.reset_by.result e.did c.reset_by.ensures.fault;
       list = refl;
       kept = ap g.D.Device.lender c.reset_by.ensures.kept ∙ e.kept;
     }
