@@ -1,5 +1,5 @@
 -- A log grows by an entry, and the run with it.
-use Rattle.std.proofs.Common.{◌≡◌, ℕ, ◌+◌, ◌<◌, List, [], ◌∷◌, ◌++◌, length, get_or, take, Some, None, Ok, Err, vec_items, Option, Result, sym, refl, ap, ◌∙◌, subst, append_assoc, MatchResult}
+use Rattle.std.proofs.Common.{◌≡◌, ℕ, ◌+◌, ◌<◌, List, [], ◌∷◌, ◌++◌, length, get_or, take, Some, None, Ok, Err, vec_items, Option, Result, sym, refl, ap, ◌∙◌, subst, append_assoc, append-nil, map, MatchResult}
 use Rattle.std.proofs.lemmas.List.{take_more}
 use Rattle.market.specs.declared.interface.Market as market
 use Rattle.device.specs.declared.Device as device
@@ -14,7 +14,7 @@ use Rattle.runner.specs.declared.hands.Hand.{Hand}
 use Rattle.runner.specs.Tokens.{Tokens, no_tokens}
 use Rattle.runner.specs.Hands.{tokens_of}
 use Rattle.runner.specs.Events.{event_of, noted, history_on, history, ByEvent, Told}
-use Rattle.runner.specs.Playing.{Answers, Played, after_entry, token_of, Closes, Closing}
+use Rattle.runner.specs.Playing.{Asked, Answers, Played, after_entry, token_of, made, from_last, spends_all}
 use Rattle.runner.specs.declared.running.Run.{Run}
 use Rattle.runner.specs.declared.running.RunFault.{RunFault}
 use Rattle.runner.specs.declared.running.RunFault.TheVariants.{NoMemory}
@@ -31,9 +31,18 @@ played_more h k [] (f ∷ es) c e l p a = absurd p
 played_more h k (d ∷ cs) [] c e l p a = absurd p
 played_more h k (d ∷ cs) (f ∷ es) c e l p a = (p.0, played_more (after_entry h (token_of d) f) k cs es c e l p.1 a)
 
-closing_more : (es : List Entry) (e : Entry) → Closing es → Closes e → Closing (es ++ e ∷ [])
-closing_more [] e c k = (k, tt)
-closing_more (f ∷ es) e c k = (c.0, closing_more es e c.1 k)
+map_more : (es : List Entry) (e : Entry) → map made (es ++ e ∷ []) ≡ map made es ++ (made e ∷ [])
+map_more [] e = refl
+map_more (f ∷ es) e = ap (λ z. made f ∷ z) (map_more es e)
+
+map_both : (es fs : List Entry) → map made (es ++ fs) ≡ map made es ++ map made fs
+map_both [] fs = refl
+map_both (e ∷ es) fs = ap (λ z. made e ∷ z) (map_both es fs)
+
+-- the last token is spent first
+pub last_first : {X : Type 0} (f : X → List Asked) (xs : List X) (x : X) → from_last f (xs ++ x ∷ []) ≡ f x ++ from_last f xs
+last_first f [] x = sym (append-nil (f x))
+last_first f (y ∷ xs) x = ap (λ z. z ++ f y) (last_first f xs x) ∙ append_assoc (f x) (from_last f xs) (f y)
 
 module _ {M D : Type 0} (m : market.Ghosts M) (d : device.Ghosts D) where
   -- one entry more
@@ -54,29 +63,29 @@ module _ {M D : Type 0} (m : market.Ghosts M) (d : device.Ghosts D) where
     played = subst (λ s. Played (tokens_of h) s (p.new ++ e ∷ []) (tokens_of l)) (sym (take_more script i c lt)) (played_more (tokens_of h) (tokens_of k) (take i script) p.new (get_or script i c) e (tokens_of l) p.played a);
   }
 
-  pub closed_next : (x y z : Exchange M D) (es fs gs : List Entry) (e : Entry) → Closed m d x es y fs → gs ≡ fs ++ e ∷ [] → Told m d y e z → Closes e → Closed m d x es z gs
-  closed_next x y z es fs gs e p q t c = record {
+  pub closed_next : (x y z : Exchange M D) (es fs gs : List Entry) (all left : List Asked) (e : Entry) → Closed m d x es y fs all (made e ∷ left) → gs ≡ fs ++ e ∷ [] → Told m d y e z → Closed m d x es z gs all left
+  closed_next x y z es fs gs all left e p q t = record {
     run = λ r. went_on y z fs gs e q t (p.run r);
     new = p.new ++ e ∷ [];
     log = q ∙ ap (λ w. w ++ e ∷ []) p.log ∙ append_assoc es p.new (e ∷ []);
-    closes = closing_more p.new e p.closes c;
+    spends = p.spends ∙ sym (append_assoc (map made p.new) (made e ∷ []) left) ∙ ap (λ w. w ++ left) (sym (map_more p.new e));
   }
 
-  closing_append : (cs bs : List Entry) → Closing cs → Closing bs → Closing (cs ++ bs)
-  closing_append [] bs a b = b
-  closing_append (e ∷ cs) bs a b = (a.0, closing_append cs bs a.1 b)
+  -- what is left, said in another way
+  pub closed_left : (x y : Exchange M D) (es fs : List Entry) (all left rest : List Asked) → left ≡ rest → Closed m d x es y fs all left → Closed m d x es y fs all rest
+  closed_left x y es fs all left rest e p = subst (Closed m d x es y fs all) e p
 
-  pub closed_then : (x y z : Exchange M D) (es fs gs : List Entry) → Closed m d x es y fs → Closed m d y fs z gs → Closed m d x es z gs
-  closed_then x y z es fs gs p q = record {
+  pub closed_then : (x y z : Exchange M D) (es fs gs : List Entry) (first second : List Asked) → Closed m d x es y fs first [] → Closed m d y fs z gs second [] → Closed m d x es z gs (first ++ second) []
+  closed_then x y z es fs gs first second p q = record {
     run = λ r. q.run (p.run r);
     new = p.new ++ q.new;
     log = q.log ∙ ap (λ w. w ++ q.new) p.log ∙ append_assoc es p.new q.new;
-    closes = closing_append p.new q.new p.closes q.closes;
+    spends = (λ i. (p.spends ∙ append-nil (map made p.new)) i ++ (q.spends ∙ append-nil (map made q.new)) i) ∙ sym (map_both p.new q.new) ∙ sym (append-nil (map made (p.new ++ q.new)));
   }
 
   -- a script that was played from nothing, and closed
   pub finished : (x y z : Exchange M D) (h k : Hand) (es fs gs : List Entry) (script : List Call) (closing : ℕ) → promises.PromisesHold (rules_of m) → es ≡ [] → tokens_of h ≡ no_tokens →
-      PlayedOn m d x h es script y k fs → closing ≡ length fs → Closed m d y fs z gs → Begun m d x → Finished m d script gs closing z
+      PlayedOn m d x h es script y k fs → closing ≡ length fs → Closed m d y fs z gs (spends_all (tokens_of k)) [] → Begun m d x → Finished m d script gs closing z
   finished x y z h k es fs gs script closing holds none empty p l c b =
       let start = subst (λ w. promises.Run (rules_of m) (history w) (view m d x)) (sym none) b in
       let run = c.run (p.run start) in
@@ -90,7 +99,7 @@ module _ {M D : Type 0} (m : market.Ghosts M) (d : device.Ghosts D) where
         place = l ∙ ap length main;
         left = tokens_of k;
         played = subst (λ t. Played t script p.new (tokens_of k)) empty p.played;
-        closes = c.closes;
+        spends = sym (c.spends ∙ append-nil (map made c.new));
       }
 
   -- what is answered of an exchange that was set up

@@ -118,19 +118,20 @@ Played h [] (e ∷ es) k = ⊥
 Played h (c ∷ cs) [] k = ⊥
 Played h (c ∷ cs) (e ∷ es) k = Answers h c e (after_entry h (token_of c) e) × Played (after_entry h (token_of c) e) cs es k
 
--- what spends the tokens that are left: a ticket by a restart and a sync, a receipt by shelving it
-abbrev pub Closes : Entry → Type 0
-Closes (entry.Stage bs a) = ⊥
-Closes (entry.Write a) = ⊥
-Closes (entry.Sync t room a) = Unit {0}
-Closes (entry.Deliver r a) = ⊥
-Closes (entry.Shelve r) = Unit {0}
-Closes (entry.Snapshot a) = ⊥
-Closes entry.Restart = Unit {0}
-Closes (entry.Open a) = ⊥
-Closes (entry.Replay room a) = ⊥
-Closes entry.Spent = ⊥
+-- what spends a token that is left: a ticket is spent by a restart and a sync that is lent no list, a receipt by shelving it
+abbrev pub spends_ticket : Option Ticket → List Asked
+spends_ticket (Some t) = restarts ∷ syncs t.numbers 0 ∷ []
+spends_ticket None = []
 
-abbrev pub Closing : List Entry → Type 0
-Closing [] = Unit {0}
-Closing (e ∷ es) = Closes e × Closing es
+abbrev pub spends_receipt : Option Receipt → List Asked
+spends_receipt (Some r) = shelves r.numbers ∷ []
+spends_receipt None = []
+
+-- from the last one on
+abbrev pub from_last : {X : Type 0} → (X → List Asked) → List X → List Asked
+from_last f [] = []
+from_last f (x ∷ xs) = from_last f xs ++ f x
+
+-- all tickets, then all receipts
+abbrev pub spends_all : Tokens → List Asked
+spends_all h = from_last spends_ticket h.tickets ++ from_last spends_receipt h.receipts

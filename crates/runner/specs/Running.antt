@@ -1,5 +1,5 @@
 -- A script that was run: its log is the history of a run, keeps the promises, and has the script's calls.
-use Rattle.std.specs.Prelude.{◌≡◌, ℕ, List, [], ◌++◌, length, Err}
+use Rattle.std.specs.Prelude.{◌≡◌, ℕ, List, [], ◌++◌, length, map, Err}
 use Rattle.market.specs.declared.interface.Market as market
 use Rattle.device.specs.declared.Device as device
 use Rattle.protocol.specs.declared.faults.ExchangeFault.{ExchangeFault}
@@ -14,7 +14,7 @@ use Rattle.runner.specs.declared.hands.Hand.{Hand}
 use Rattle.runner.specs.Tokens.{Tokens, no_tokens}
 use Rattle.runner.specs.Hands.{tokens_of}
 use Rattle.runner.specs.Events.{history}
-use Rattle.runner.specs.Playing.{Played, Closing}
+use Rattle.runner.specs.Playing.{Asked, Played, made, spends_all}
 
 module _ {M D : Type 0} (m : market.Ghosts M) (d : device.Ghosts D) where
   -- just set up
@@ -32,15 +32,15 @@ module _ {M D : Type 0} (m : market.Ghosts M) (d : device.Ghosts D) where
     pub log : fs ≡ es ++ new
     pub played : Played (tokens_of h) script new (tokens_of k)
 
-  -- tokens are spent, and the entries of that added to the log
-  pub record Closed (x : Exchange M D) (es : List Entry) (y : Exchange M D) (fs : List Entry) : Type 0 where
+  -- tokens are spent, and the entries of that added to the log: of all calls that it takes, these are still left
+  pub record Closed (x : Exchange M D) (es : List Entry) (y : Exchange M D) (fs : List Entry) (all left : List Asked) : Type 0 where
     pub run : WentOn x es y fs
     pub new : List Entry
     pub log : fs ≡ es ++ new
-    pub closes : Closing new
+    pub spends : all ≡ map made new ++ left
 
   -- The log's history is a run that led to this exchange, and keeps the promises; its calls are the script's, each with the
-  -- token that it names, and then, from `closing` on, those that spend what is left.
+  -- token that it names, and then, from `closing` on, those that spend what tokens are left, and no others.
   pub record Finished (script : List Call) (log : List Entry) (closing : ℕ) (x : Exchange M D) : Type 0 where
     pub run : promises.Run (rules_of m) (history log) (view m d x)
     pub promises : promises.Promised (rules_of m) (history log) (view m d x)
@@ -50,7 +50,7 @@ module _ {M D : Type 0} (m : market.Ghosts M) (d : device.Ghosts D) where
     pub place : closing ≡ length main
     pub left : Tokens
     pub played : Played no_tokens script main left
-    pub closes : Closing rest
+    pub spends : map made rest ≡ spends_all left
 
   -- the set-up was refused, or cut
   abbrev pub NotBegun : Exchange M D → ExchangeFault → Exchange M D → Type 0

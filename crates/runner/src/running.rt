@@ -3,7 +3,7 @@ ghost use Rattle.std.specs.Prelude.{◌≡◌, ◌+◌, ◌*◌, ◌≤◌, [], 
 ghost use Rattle.protocol.specs.Worlds.{rules_of};
 ghost use Rattle.exchange.specs.Views.{view};
 ghost use Rattle.runner.specs.Events.{Told};
-ghost use Rattle.runner.specs.Playing.{Closes};
+ghost use Rattle.runner.specs.Playing.{made, syncs, spends_ticket, spends_receipt, from_last, spends_all};
 ghost use Rattle.runner.specs.Hands.{tokens_of};
 ghost use Rattle.runner.specs.Tokens.{most_closing};
 ghost use Rattle.runner.specs.Outcomes.{Outcome};
@@ -93,7 +93,7 @@ fn play<M: Market, D: Device>(
 fn spend<M: Market, D: Device>(exchange: &mut Exchange<M, D>, ticket: Ticket) -> Entry
     requires { exchange.old.phase ≡ Dark }
     ensures told { Told M.Market D.Device exchange.old result exchange.new }
-    ensures closes { Closes result }
+    ensures made { made result ≡ syncs ticket.numbers 0 }
 {
     let numbers = ticket.numbers();
     match exchange.sync(ticket, &mut []) {
@@ -110,7 +110,7 @@ fn close_tickets<M: Market, D: Device>(
     log: &mut Vec<Entry>,
 )
     requires { vec_len log.old + 2 * vec_len tickets.old ≤ vec_capacity log.old }
-    ensures closed { Closed M.Market D.Device exchange.old log.old.items exchange.new log.new.items }
+    ensures closed { Closed M.Market D.Device exchange.old log.old.items exchange.new log.new.items (from_last spends_ticket tickets.old.items) [] }
     ensures none { vec_len tickets.new ≡ 0 }
     ensures room { (vec_len log.new ≤ vec_len log.old + 2 * vec_len tickets.old) × (vec_capacity log.new ≡ vec_capacity log.old) }
 {
@@ -131,7 +131,7 @@ fn close_receipts<M: Market, D: Device>(
     log: &mut Vec<Entry>,
 )
     requires { vec_len log.old + vec_len receipts.old ≤ vec_capacity log.old }
-    ensures closed { Closed M.Market D.Device exchange.old log.old.items exchange.new log.new.items }
+    ensures closed { Closed M.Market D.Device exchange.old log.old.items exchange.new log.new.items (from_last spends_receipt receipts.old.items) [] }
     ensures none { vec_len receipts.new ≡ 0 }
 {
     while let Some(held) = receipts.pop() {
@@ -146,7 +146,7 @@ fn close_receipts<M: Market, D: Device>(
 // Spends every ticket and every receipt that is left, and notes it.
 fn close<M: Market, D: Device>(exchange: &mut Exchange<M, D>, mut hand: Hand, log: &mut Vec<Entry>)
     requires { vec_len log.old + most_closing (tokens_of hand) ≤ vec_capacity log.old }
-    ensures { Closed M.Market D.Device exchange.old log.old.items exchange.new log.new.items }
+    ensures { Closed M.Market D.Device exchange.old log.old.items exchange.new log.new.items (spends_all (tokens_of hand)) [] }
 {
     close_tickets(exchange, &mut hand.tickets, log);
     close_receipts(exchange, &mut hand.receipts, log);
