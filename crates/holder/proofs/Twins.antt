@@ -1,7 +1,6 @@
 -- Two receipts that were answered for one page are one.
 use Rattle.std.proofs.Common.{◌≡◌, List, [], ◌∷◌, ◌++◌, length, IfSome, Some, None, Option, sym, refl, ap, ◌∙◌, subst, arith, Ok, Err, Result, rules}
 use Rattle.std.specs.Result.{result_ok}
-use mathlib.Core.List.Memᴰ
 use mathlib.Core.List.{Memᴰ, head-eq_of_cons-eq, tail-eq_of_cons-eq}
 use Rattle.records.specs.declared.commands.Command.{Command}
 use Rattle.protocol.specs.declared.tokens.ReceiptNumbers.{ReceiptNumbers}
@@ -41,13 +40,9 @@ module _ {S : Type 0} (w : World S) where
       let q = of_record kept h k each b in
       sym p.1 ∙ one_page kept p.0 q.0 p.2 q.2 (ap (λ (z : ReceiptNumbers). z.page) p.1 ∙ e ∙ sym (ap (λ (z : ReceiptNumbers). z.page) q.1)) ∙ q.1
 
-pub later_answered : (later h : History) (n : ReceiptNumbers) → Answered h n → Answered (later ++ h) n
-later_answered later h n (by_sync t room a e m) = by_sync t room a e (Memᴰ.append_right later m)
-later_answered later h n (by_replay room a e m) = by_replay room a e (Memᴰ.append_right later m)
-
-pub given_run : {P : Type 0} (Q : ReceiptNumbers → Type 0) (o : Option ReceiptNumbers) → IfSome o (λ n. P → Q n) → P → IfSome o Q
-given_run Q (Some n) f p = f p
-given_run Q None f p = tt
+pub if_some : (P Q : ReceiptNumbers → Type 0) (o : Option ReceiptNumbers) → IfSome o P → ((n : ReceiptNumbers) → P n → Q n) → IfSome o Q
+if_some P Q (Some n) p f = f n p
+if_some P Q None p f = tt
 
 -- a result that is some by `ok` is that one
 pub was_ok : {T E : Type 0} (r : Result T E) (x : T) → result_ok r ≡ Some x → r ≡ Ok x

@@ -8,7 +8,7 @@
 ghost use Rattle.std.specs.Prelude.{◌≡◌, IfSome};
 ghost use Rattle.protocol.specs.Steps.{Shelve};
 ghost use Rattle.exchange.specs.Views.{Called};
-ghost use Rattle.holder.specs.Holding.{RanOn, Holds, GetsAgain};
+ghost use Rattle.holder.specs.Holding.{Syncs, OnePage, GetsAgain, AnsweredTwice};
 
 use device::Device;
 use exchange::state::Exchange;
@@ -45,7 +45,7 @@ fn sync_page<M: Market, D: Device>(
     ticket: Ticket,
     list: &mut [Notice],
 ) -> Option<ReceiptNumbers>
-    ensures { IfSome result (λ n. RanOn M.Market D.Device exchange.old → Holds M.Market D.Device n exchange.new) }
+    ensures { IfSome result (λ n. Syncs M.Market D.Device exchange.old ticket.numbers n exchange.new) }
 {
     match exchange.sync(ticket, list) {
         Ok(receipt) => Some(note(exchange, receipt)),
@@ -63,7 +63,7 @@ fn first_receipt<M: Market, D: Device>(
     bytes: &[u8],
     list: &mut [Notice],
 ) -> Option<ReceiptNumbers>
-    ensures { IfSome result (λ n. Holds M.Market D.Device n exchange.new) }
+    ensures { IfSome result (λ n. OnePage M.Market D.Device bytes.now n exchange.new) }
 {
     exchange.set_up().ok()?;
     exchange.stage(bytes).ok()?;
@@ -91,14 +91,15 @@ pub struct Twice {
     pub again: ReceiptNumbers,
 }
 
-/// Sets the exchange up, sends one page, restarts, opens and replays: both receipts, if both are answered. Where they are of
-/// one page, they are one receipt.
+/// Sets the exchange up, sends one page, restarts, opens and replays: the receipt of the sync and that of the replay, if both
+/// are answered. Where they are of one page, they are one receipt.
 pub fn ask_again<M: Market, D: Device>(
     exchange: &mut Exchange<M, D>,
     bytes: &[u8],
     list: &mut [Notice],
 ) -> Option<Twice>
-    ensures { IfSome result (λ t. t.again.page ≡ t.held.page → t.again ≡ t.held) }
+    ensures calls { IfSome result (λ t. AnsweredTwice M.Market D.Device bytes.now t.held t.again exchange.new) }
+    ensures same { IfSome result (λ t. t.again.page ≡ t.held.page → t.again ≡ t.held) }
 {
     promises_stand::<M>();
     let held = first_receipt(exchange, bytes, list)?;

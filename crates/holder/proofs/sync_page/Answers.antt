@@ -1,17 +1,14 @@
-use Rattle.std.proofs.Common.{◌∷◌, length, Ok, sym, refl}
-use mathlib.Core.List.Memᴰ
-use Rattle.protocol.specs.Steps.{Sync, Shelve}
+use Rattle.std.proofs.Common.{length, sym}
 use Rattle.exchange.specs.Answers.{handed_with}
 use Rattle.exchange.specs.Views.{view}
-use Rattle.holder.specs.Holding.{by_sync}
 use Rattle.holder.proofs.sync_page.Goals as goal
 
 pub returns-in-Ok : goal.returns-in-Ok
-returns-in-Ok g c r =
+returns-in-Ok g c h r =
     let v = view g.M.Market g.D.Device in
-    let a = handed_with c.in-Ok.receipt c.sync.new.list in
     record {
-      history = Shelve c.in-Ok.receipt.numbers ∷ Sync c.args.ticket.numbers (length c.args.list.now) (Ok a) ∷ r.history;
-      run = (v c.sync.new.self, (v c.args.exchange.now, r.run, c.in-Ok.ensures.did), c.note.ensures.same);
-      answered = by_sync c.args.ticket.numbers (length c.args.list.now) a (sym c.note.ensures.numbers) (Memᴰ.tail (Memᴰ.head refl));
+      room = length c.args.list.now;
+      answer = handed_with c.in-Ok.receipt c.sync.new.list;
+      is = sym c.note.ensures.numbers;
+      run = (v c.sync.new.self, (v c.args.exchange.now, r, c.in-Ok.ensures.did), c.note.ensures.same);
     }
