@@ -1,2 +1,3 @@
 pub mod Days
+pub mod Handed
 pub mod Inputs

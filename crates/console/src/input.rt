@@ -2,6 +2,7 @@
 use arrayvec::ArrayVec;
 
 pub mod fills;
+pub mod lines;
 
 /// The bytes of a line so far, of which it may have 255. A 256th is kept as the sign that more came.
 #[derive(Drop)]

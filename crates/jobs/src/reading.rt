@@ -8,11 +8,11 @@ ghost use Rattle.jobs.specs.Ranges.{SaysRange};
 
 use crate::faults::JobFault;
 use console::input::LineBuffer;
+use console::input::lines::each_line;
 use records::commands::Command;
 use records::refusals::Refusal;
 use std::alloc::{AllocError, Global};
 use std::io;
-use std::io::{BufRead, BufReader, Read};
 use words::{LineFault, command_of};
 
 /// Why a command is not taken: it is refused, or the job ends.
@@ -65,52 +65,6 @@ pub fn range_fault(command: &Command) -> LineFault
         Command::Enter { .. } => LineFault::Range("the lots are 1 to 1000000"),
         _ => LineFault::Range("an order is 1 to 1000000000000"),
     }
-}
-
-// Puts what these bytes have of a line into it; how many they are where the line ends after them.
-fn fill_line(line: &mut LineBuffer, bytes: &[u8]) -> Option<usize> {
-    for (count, byte) in bytes.iter().enumerate() {
-        if *byte == b'\n' {
-            return Some(count);
-        }
-        line.push(*byte);
-    }
-    None
-}
-
-/// Hands each line of the input on under its number, and answers how many newlines came. A line has fixed memory and need not be
-/// UTF-8, where `lines` of a BufReader would allocate each line and answer a fault of input.
-pub fn each_line<
-    I: Read + Drop,
-    E: From<io::Error> + From<AllocError>,
-    F: FnMut(u64, &LineBuffer) -> Result<(), E>,
->(heap: Global, input: I, mut take: F) -> Result<u64, E>
-    requires { F.IsAlwaysCallable take }
-{
-    let mut reader = BufReader::new(heap, input)?;
-    let mut buffer = LineBuffer::new();
-    let mut line: u64 = 0;
-    // A counted loop, since an input has no length.
-    for _ in 0..u64::MAX {
-        let bytes = reader.fill_buf()?;
-        let whole = bytes.len();
-        if whole == 0 {
-            break;
-        }
-        match fill_line(&mut buffer, bytes) {
-            None => reader.consume(whole),
-            Some(count) => {
-                reader.consume(count.saturating_add(1));
-                line = line.saturating_add(1);
-                take(line, &buffer)?;
-                buffer.clear();
-            }
-        }
-    }
-    if !buffer.is_empty() {
-        take(line.saturating_add(1), &buffer)?;
-    }
-    Ok(line)
 }
 
 /// The words of a line: none where it is blank or begins with #.

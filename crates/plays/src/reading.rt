@@ -1,6 +1,7 @@
 //! A script from an input.
+use console::input::lines::each_line;
 use jobs::faults::JobFault;
-use jobs::reading::{each_line, take_words};
+use jobs::reading::take_words;
 use play_words::faults::{PlayFault, ScriptFault};
 use play_words::script::{Reader, Script};
 use std::alloc::Global;

@@ -1,4 +1,5 @@
 ghost use Rattle.std.specs.Prelude.{◌≡◌, false, [], length, MatchResult, ◌==◌};
+ghost use Rattle.std.specs.List.{FoldsTo};
 ghost use Rattle.console.specs.Inputs.{held, is_long, Pushed, NoText};
 
 use super::LineBuffer;
@@ -21,6 +22,15 @@ impl LineBuffer {
         ensures { Pushed self.old byte self.new }
     {
         let _ = self.bytes.try_push(byte);
+    }
+
+    /// More bytes of the line, one after the other.
+    pub fn extend(&mut self, bytes: &[u8])
+        ensures { FoldsTo Pushed self.old bytes.now self.new }
+    {
+        for byte in bytes {
+            self.push(*byte);
+        }
     }
 
     /// The next line begins.
