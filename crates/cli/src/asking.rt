@@ -19,13 +19,24 @@ const PLANS: u32 = 64;
 pub enum Job<'w> {
     /// To tell of one command, or of all.
     Help(Option<Command>),
-    Match { market: MarketKind },
-    Page { sectors: usize },
-    Play { scripts: &'w [&'w str] },
+    /// The file has the commands, or standard input has them.
+    Match {
+        market: MarketKind,
+        file: Option<&'w str>,
+    },
+    Page {
+        sectors: usize,
+        file: Option<&'w str>,
+    },
+    Play {
+        scripts: &'w [&'w str],
+    },
     Drill(Options<'w>),
     SetUp(Setting<'w>),
     Run(Run<'w>),
-    Show { file: &'w str },
+    Show {
+        file: &'w str,
+    },
 }
 
 // The market of this name.
@@ -50,22 +61,33 @@ fn needed<'w>(words: &[&'w str], name: &str, form: &'static str) -> Result<&'w s
     value_of(words, name).ok_or(WordFault::Missing(form))
 }
 
+// The name of the file that has the input, where one comes first, and the words after it.
+fn split_input<'w>(words: &'w [&'w str]) -> (Option<&'w str>, &'w [&'w str]) {
+    match words {
+        [file, rest @ ..] if !file.starts_with("--") => (Some(*file), rest),
+        _ => (None, words),
+    }
+}
+
 // The words after `match`.
-fn match_job(heap: Global, words: &[&str]) -> Result<Job<'static>, WordFault> {
+fn match_job<'w>(heap: Global, words: &'w [&'w str]) -> Result<Job<'w>, WordFault> {
+    let (file, words) = split_input(words);
     check_options(heap, words, &["--market"])?;
     let market = match value_of(words, "--market") {
         None => MarketKind::Book,
         Some(name) => market_named(heap, name)?,
     };
-    Ok(Job::Match { market })
+    Ok(Job::Match { market, file })
 }
 
 // The words after `page`.
-fn page_job(heap: Global, words: &[&str]) -> Result<Job<'static>, WordFault> {
+fn page_job<'w>(heap: Global, words: &'w [&'w str]) -> Result<Job<'w>, WordFault> {
+    let (file, words) = split_input(words);
     check_options(heap, words, &["--sectors"])?;
     let sectors = needed(words, "--sectors", "--sectors N")?;
     Ok(Job::Page {
         sectors: number(sectors, "--sectors")?,
+        file,
     })
 }
 

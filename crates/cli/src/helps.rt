@@ -38,9 +38,10 @@ struct Help {
 }
 
 const MATCH: Help = Help {
-    form: "match [--market book|call]",
-    does: "match the commands of standard input in a book (or a call)",
+    form: "match [FILE] [--market book|call]",
+    does: "match the commands of a file or of standard input in a book (or a call)",
     more: "\
+FILE        the file that has the commands, standard input if left out
 --market M  the market: book (a running book, if left out) or call (a call auction)
 
 One command a line:
@@ -50,20 +51,21 @@ One command a line:
 Blank lines and lines that begin with # are passed over. A line that is no good command is refused with
 its reason, and the run goes on.
 
-Status 0 at the end of the input, also where lines were refused; 1 where the words are wrong, or input,
-output or memory fails.",
+Status 0 at the end of the input, also where lines were refused; 1 where the words are wrong, or the file,
+input, output or memory fails.",
 };
 
 const PAGE: Help = Help {
-    form: "page --sectors N",
-    does: "write the commands of standard input as pages over a ring of sectors, and read them back",
+    form: "page [FILE] --sectors N",
+    does: "write the commands of a file or of standard input as pages over a ring of sectors, and read them back",
     more: "\
+FILE         the file that has the commands, standard input if left out
 --sectors N  how many sectors the device has, 9 to 4096
 
 The lines are those of match.
 
-Status 0 at the end of the input, also where lines were refused; 1 where the words are wrong, or input,
-output or memory fails.",
+Status 0 at the end of the input, also where lines were refused; 1 where the words are wrong, or the file,
+input, output or memory fails.",
 };
 
 const PLAY: Help = Help {

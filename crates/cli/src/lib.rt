@@ -30,15 +30,13 @@ fn run_drill(rt: &HostRuntime, options: Options) -> Result<(), Fault> {
     }
 }
 
-fn run(rt: &HostRuntime) -> Result<(), Fault> {
-    let heap = rt.alloc();
-    let args: Vec<String> = env::args(rt)?.skip(1).collect(heap)?;
-    let words: Vec<&str> = args.iter().map(|arg| arg.as_str()).collect(heap)?;
-    match job_of(heap, &words)? {
+/// Does what these words ask for.
+pub fn run_words(rt: &HostRuntime, words: &[&str]) -> Result<(), Fault> {
+    match job_of(rt.alloc(), words)? {
         Job::Help(None) => print_overview(rt)?,
         Job::Help(Some(command)) => print_help(rt, command)?,
-        Job::Match { market } => match_orders(rt, market)?,
-        Job::Page { sectors } => page_orders(rt, sectors)?,
+        Job::Match { market, file } => match_orders(rt, market, file)?,
+        Job::Page { sectors, file } => page_orders(rt, sectors, file)?,
         Job::Play { scripts } => play_scripts(rt, scripts)?,
         Job::Drill(options) => run_drill(rt, options)?,
         Job::SetUp(setting) => set_up_file(rt, setting)?,
@@ -46,6 +44,13 @@ fn run(rt: &HostRuntime) -> Result<(), Fault> {
         Job::Show { file } => show_file(rt, file)?,
     }
     Ok(())
+}
+
+fn run(rt: &HostRuntime) -> Result<(), Fault> {
+    let heap = rt.alloc();
+    let args: Vec<String> = env::args(rt)?.skip(1).collect(heap)?;
+    let words: Vec<&str> = args.iter().map(|arg| arg.as_str()).collect(heap)?;
+    run_words(rt, &words)
 }
 
 /// Does what the arguments ask for; what is wrong goes to standard error, too.
@@ -57,8 +62,7 @@ pub fn run_and_report(rt: &HostRuntime) -> Result<(), Fault> {
     done
 }
 
-/// The whole program: each of the program crates is this one call, under arguments of its own, since the gate runs a
-/// program crate with one set of arguments.
+/// The whole program.
 pub fn run_program(rt: &HostRuntime) -> ExitCode {
     match run_and_report(rt) {
         Ok(()) => ExitCode::SUCCESS,

@@ -212,13 +212,32 @@ mod tests {
     fn other_jobs_are_asked_for(rt: HostRuntime) -> Result<(), Fail> {
         let heap = rt.alloc();
         let page = job_of(heap, &["page", "--sectors", "12"]);
-        assert!(rt; matches!(&page, Ok(Job::Page { sectors: 12 })));
+        assert!(rt;
+            matches!(
+                &page,
+                Ok(Job::Page {
+                    sectors: 12,
+                    file: None
+                })
+            )
+        );
         let market = job_of(heap, &["match"]);
         assert!(rt;
             matches!(
                 &market,
                 Ok(Job::Match {
-                    market: MarketKind::Book
+                    market: MarketKind::Book,
+                    file: None
+                })
+            )
+        );
+        let day = job_of(heap, &["match", "day", "--market", "call"]);
+        assert!(rt;
+            matches!(
+                &day,
+                Ok(Job::Match {
+                    market: MarketKind::Call,
+                    file: Some("day")
                 })
             )
         );

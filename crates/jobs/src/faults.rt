@@ -1,4 +1,7 @@
 //! Why a job ends early.
+ghost use Rattle.std.specs.Prelude.{◌≡◌};
+ghost use Rattle.jobs.specs.declared.faults.JobFault.TheVariants.{Io, NoMemory};
+
 use play_words::faults::ScriptFault;
 use std::alloc::AllocError;
 use std::{fmt, io};
@@ -32,12 +35,16 @@ impl fmt::Display for JobFault {
 }
 
 impl From<io::Error> for JobFault {
+    ghost from_gives = { λ e f. f ≡ Io e };
+
     fn from(e: io::Error) -> JobFault {
         JobFault::Io(e)
     }
 }
 
 impl From<AllocError> for JobFault {
+    ghost from_gives = { λ _ f. f ≡ NoMemory };
+
     fn from(_e: AllocError) -> JobFault {
         JobFault::NoMemory
     }

@@ -1,6 +1,6 @@
 //! Commands matched in a market.
 use crate::faults::JobFault;
-use crate::reading::{NotTaken, Taker, range_fault, take_lines};
+use crate::reading::{NotTaken, Taker, range_fault, take_from};
 use book::shape::Continuous;
 use call::shape::Crossing;
 use console::day::Day;
@@ -66,10 +66,10 @@ fn print_body<R: Rules>(rt: &HostRuntime, market: &RestingMarket<R>) -> Result<(
     Ok(())
 }
 
-// A day of commands from standard input, and what rests at its end.
-fn run_day<R: Rules>(rt: &HostRuntime, name: &str) -> Result<(), JobFault> {
+// A day of commands from a file or from standard input, and what rests at its end.
+fn run_day<R: Rules>(rt: &HostRuntime, name: &str, file: Option<&str>) -> Result<(), JobFault> {
     let mut day: Day<RestingMarket<R>> = Day::new(rt.alloc())?;
-    let refused = take_lines(rt, &mut day)?;
+    let refused = take_from(rt, file, &mut day)?;
     let (commands, notices) = (day.commands().0, day.notices().0);
     println!(rt; "{name} last {commands}")?;
     print_side(rt, Side::Buy, day.market.buys())?;
@@ -79,10 +79,14 @@ fn run_day<R: Rules>(rt: &HostRuntime, name: &str) -> Result<(), JobFault> {
 }
 
 // The market is chosen once, from a word: what follows is one generic function.
-/// Matches the commands of standard input in a market.
-pub fn match_orders(rt: &HostRuntime, kind: MarketKind) -> Result<(), JobFault> {
+/// Matches the commands of the file of this name, or of standard input, in a market.
+pub fn match_orders(
+    rt: &HostRuntime,
+    kind: MarketKind,
+    file: Option<&str>,
+) -> Result<(), JobFault> {
     match kind {
-        MarketKind::Book => run_day::<Continuous>(rt, "book"),
-        MarketKind::Call => run_day::<Crossing>(rt, "call"),
+        MarketKind::Book => run_day::<Continuous>(rt, "book", file),
+        MarketKind::Call => run_day::<Crossing>(rt, "call", file),
     }
 }

@@ -1,6 +1,6 @@
 //! Commands written as pages over a ring of sectors, and read back.
 use crate::faults::JobFault;
-use crate::reading::{NotTaken, Taker, range_fault, take_lines};
+use crate::reading::{NotTaken, Taker, range_fault, take_from};
 use journal::layouts::Layout;
 use records::commands::Command;
 use records::numbers::{CommandNumber, HouseNumber, PageNumber};
@@ -107,11 +107,11 @@ impl Taker for Ring {
     }
 }
 
-/// Writes the commands of standard input as pages of up to 16 over a ring of sectors, and reads
-/// every sector of the journal back.
-pub fn page_orders(rt: &HostRuntime, size: usize) -> Result<(), JobFault> {
+/// Writes the commands of the file of this name, or of standard input, as pages of up to 16 over a ring of sectors, and
+/// reads every sector of the journal back.
+pub fn page_orders(rt: &HostRuntime, size: usize, file: Option<&str>) -> Result<(), JobFault> {
     let mut ring = Ring::new(rt.alloc(), size)?;
-    let refused = take_lines(rt, &mut ring)?;
+    let refused = take_from(rt, file, &mut ring)?;
     if !ring.staged.is_empty() {
         ring.write_page(rt)?;
     }

@@ -1,8 +1,9 @@
 //! Lines of an input, handed on as commands.
-ghost use Rattle.std.specs.Prelude.{◌≡◌, ◌<◌, ◌⊎◌, [], length, Ok, IfOk, OnOk};
+ghost use Rattle.std.specs.Prelude.{◌≡◌, ◌<◌, ◌⊎◌, [], length, Ok, IfErr, IfOk, OnOk};
 ghost use Rattle.std.specs.List.{All};
 ghost use Rattle.std.specs.Fn.{FnOnceReturnsAt};
 ghost use Rattle.console.specs.Inputs.{held};
+ghost use Rattle.jobs.specs.Files.{NotOpened};
 ghost use Rattle.jobs.specs.Lines.{Wordless};
 ghost use Rattle.jobs.specs.Ranges.{SaysRange};
 
@@ -12,7 +13,9 @@ use console::input::lines::each_line;
 use records::commands::Command;
 use records::refusals::Refusal;
 use std::alloc::{AllocError, Global};
+use std::fs::File;
 use std::io;
+use std::io::Read;
 use words::{LineFault, command_of};
 
 /// Why a command is not taken: it is refused, or the job ends.
@@ -103,11 +106,15 @@ fn take_line<T: Taker>(rt: &HostRuntime, taker: &mut T, line: &LineBuffer) -> Re
 }
 
 // Takes the commands of the whole input; how many lines were refused. The closure counts what it refuses: nothing enumerates that.
-pub(crate) fn take_lines<T: Taker>(rt: &HostRuntime, taker: &mut T) -> Result<u64, JobFault> {
+fn take_lines<I: Read + Drop, T: Taker>(
+    rt: &HostRuntime,
+    input: I,
+    taker: &mut T,
+) -> Result<u64, JobFault> {
     let mut refused: u64 = 0;
     each_line(
         rt.alloc(),
-        rt.stdin(),
+        input,
         |line, buffer| match take_line(rt, taker, buffer) {
             Ok(()) => Ok(()),
             Err(NotTaken::Refused(reason, fault)) => {
@@ -120,4 +127,29 @@ pub(crate) fn take_lines<T: Taker>(rt: &HostRuntime, taker: &mut T) -> Result<u6
         },
     )?;
     Ok(refused)
+}
+
+/// Opens the file of this name to read it.
+pub fn open_file(rt: &HostRuntime, name: &str) -> Result<File, JobFault>
+    ensures { IfErr result (NotOpened name.now) }
+{
+    match File::open(rt, name) {
+        Ok(file) => Ok(file),
+        Err(error) => Err(JobFault::File {
+            name: String::from_str(rt.alloc(), name)?,
+            error,
+        }),
+    }
+}
+
+// Takes the commands of the file of this name, or of standard input; how many lines were refused.
+pub(crate) fn take_from<T: Taker>(
+    rt: &HostRuntime,
+    file: Option<&str>,
+    taker: &mut T,
+) -> Result<u64, JobFault> {
+    match file {
+        Some(name) => take_lines(rt, open_file(rt, name)?, taker),
+        None => take_lines(rt, rt.stdin(), taker),
+    }
 }

@@ -1,11 +1,10 @@
 //! A script from an input.
 use console::input::lines::each_line;
 use jobs::faults::JobFault;
-use jobs::reading::take_words;
+use jobs::reading::{open_file, take_words};
 use play_words::faults::{PlayFault, ScriptFault};
 use play_words::script::{Reader, Script};
 use std::alloc::Global;
-use std::fs::File;
 use std::io::Read;
 
 fn at_line<T>(line: u64, done: Result<T, PlayFault>) -> Result<T, JobFault> {
@@ -26,11 +25,5 @@ pub fn read_script<I: Read + Drop>(heap: Global, input: I) -> Result<Script, Job
 
 /// Reads the whole script in the file of this name.
 pub fn script_in(rt: &HostRuntime, name: &str) -> Result<Script, JobFault> {
-    match File::open(rt, name) {
-        Ok(file) => read_script(rt.alloc(), file),
-        Err(error) => Err(JobFault::File {
-            name: String::from_str(rt.alloc(), name)?,
-            error,
-        }),
-    }
+    read_script(rt.alloc(), open_file(rt, name)?)
 }

@@ -1,9 +1,0 @@
-//! Hammerbuff, the program: the same as `hammerbuff`, so that the gate runs a call auction too.
-#![tactic(auto)]
-
-use cli::run_program;
-use std::process::ExitCode;
-
-fn main(rt: HostRuntime) -> ExitCode {
-    run_program(&rt)
-}
