@@ -110,13 +110,7 @@ impl<M: Market, D: Device> Exchange<M, D> {
         ensures fits { header_fits result ≡ true }
         ensures value { result ≡ header_for (world_of (rules_of M.Market) (view M.Market D.Device self.now)) self.now.pages.0 self.now.commands.0 self.now.notices.0 }
     {
-        header_of(
-            self.house,
-            self.pages,
-            self.commands,
-            self.notices,
-            M::code_number(),
-        )
+        header_of(self.house, self.pages, self.commands, self.notices, M::CODE)
     }
 
     // Counts a page of so many commands and notices, which was applied, and empties the staging.

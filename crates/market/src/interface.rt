@@ -19,7 +19,7 @@ pub trait Market: Sized {
     /// Tells one kind of market from another on a snapshot.
     const CODE: u16;
 
-    ghost code: { ℕ };
+    ghost CODE: { ℕ };
 
     ghost State: { Type 0 };
 
@@ -39,10 +39,6 @@ pub trait Market: Sized {
     ghost body: { State → List ℕ };
 
     ghost loads: { List ℕ → Option State };
-
-    /// The market's code, for code that knows it only as a market.
-    fn code_number() -> u16
-        ensures { result ≡ code };
 
     /// A fresh market, with all the memory that it will need.
     fn new(heap: Global) -> Result<Self, AllocError>

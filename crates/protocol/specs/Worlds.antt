@@ -29,7 +29,7 @@ pub record Rules (S : Type 0) : Type 0 where
   pub loads : List ℕ → Option S
 
 abbrev pub rules_of : {M : Type 0} (m : market.Ghosts M) → Rules m.State
-rules_of m = record { code = m.code; start = m.start; count = m.count; step = m.step; body = m.body; loads = m.loads }
+rules_of m = record { code = m.CODE; start = m.start; count = m.count; step = m.step; body = m.body; loads = m.loads }
 
 -- what never changes under an exchange: its house number, the size of its device, and how its market works
 pub record World (S : Type 0) : Type 0 where

@@ -41,7 +41,7 @@ impl<R: Rules> RestingMarket<R> {
 impl<R: Rules> Market for RestingMarket<R> {
     const CODE: u16 = R::CODE;
 
-    ghost code = { R.CODE };
+    ghost CODE = { R.CODE };
 
     ghost State = { Resting };
 
@@ -80,10 +80,6 @@ impl<R: Rules> Market for RestingMarket<R> {
     ghost back = { bodies.loads_back R.sound R.orders };
 
     ghost only = { bodies.loads_only R.sound R.orders };
-
-    fn code_number() -> u16 {
-        R::CODE
-    }
 
     fn new(heap: Global) -> Result<Self, AllocError> {
         Ok(RestingMarket {

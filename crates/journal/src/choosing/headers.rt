@@ -18,12 +18,11 @@ fn is_of(header: &Header, house: HouseNumber, code: u16) -> bool
 
 /// The good header of this house and this market whose sector this is.
 pub fn own_header<M: Market>(sector: &[u8; 512], house: HouseNumber) -> Option<Header>
-    ensures value { result ≡ own_header_in house M.Market.code sector.now }
-    ensures exact { OwnHeader house M.Market.code sector.now result }
+    ensures value { result ≡ own_header_in house M.Market.CODE sector.now }
+    ensures exact { OwnHeader house M.Market.CODE sector.now result }
 {
     let header = Header::decode(sector)?;
-    let code = M::code_number();
-    if is_of(&header, house, code) {
+    if is_of(&header, house, M::CODE) {
         Some(header)
     } else {
         None
@@ -62,7 +61,7 @@ pub fn first_header<'a, M: Market>(
     one: &'a [u8; 512],
     house: HouseNumber,
 ) -> Option<Chosen<'a>>
-    ensures place { result ≡ chosen zero.entry one.entry (first_of (own_header_in house M.Market.code zero.now) (own_header_in house M.Market.code one.now)) }
+    ensures place { result ≡ chosen zero.entry one.entry (first_of (own_header_in house M.Market.CODE zero.now) (own_header_in house M.Market.CODE one.now)) }
     ensures rank { FirstIsFirst }
 {
     let first = first_of(own_header::<M>(zero, house), own_header::<M>(one, house))?;
