@@ -17,7 +17,8 @@ pub struct Queue {
 
 impl Queue {
     pub fn new(heap: Global) -> Result<Queue, AllocError>
-        ensures { IfOk result (λ q. q.items.items ≡ []) }
+        ensures empty { IfOk result (λ q. q.items.items ≡ []) }
+        ensures room { IfOk result (λ q. deque_capacity q.items ≡ 8) }
     {
         let items = VecDeque::with_capacity(heap, 8)?;
         Ok(Queue { items })
