@@ -1,5 +1,5 @@
 -- What is built of a shape over lent bytes. Assumes nothing.
-use Rattle.std.specs.Prelude.{◌≡◌, ℕ, true, List, [], None, vec_items}
+use Rattle.std.specs.Prelude.{◌≡◌, ℕ, true, ◌⊎◌, List, [], None, vec_items}
 use Rattle.std.specs.Borrow.{MutBor}
 use Rattle.drives.specs.Drives.{State}
 use Rattle.drives.specs.Schedules.{next_on, rest}
@@ -50,3 +50,11 @@ IsWhole (Mirror p q) i j (Second m) = IsPart p i m.a × IsPart q j m.b
 
 abbrev pub IsPile : PileShape → Bytes → Bytes → Shift (Either (Shift Base) (Pair (Shift Base) (Shift Base))) → Type 0
 IsPile p i j o = (o.base ≡ p.base) × IsWhole p.whole i j o.device
+
+-- only a write-back drive takes memory of its own, for the writes that wait
+abbrev pub WaitsIn : DriveShape → Type 0
+WaitsIn d = d.kind ≡ WriteBack
+
+abbrev pub HasWriteBack : WholeShape → Type 0
+HasWriteBack (Part p) = WaitsIn p.drive
+HasWriteBack (Mirror p q) = WaitsIn p.drive ⊎ WaitsIn q.drive

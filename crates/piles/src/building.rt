@@ -1,6 +1,6 @@
 //! Piles over lent images.
-ghost use Rattle.piles.specs.Builds.{IsBase, IsPart, IsPile, IsWhole};
-ghost use Rattle.std.specs.Prelude.{IfOk};
+ghost use Rattle.piles.specs.Builds.{HasWriteBack, IsBase, IsPart, IsPile, IsWhole, WaitsIn};
+ghost use Rattle.std.specs.Prelude.{IfErr, IfOk};
 
 use crate::{Base, DriveKind, DriveShape, PartShape, PileShape, WholeShape};
 use device::offset::Offset;
@@ -24,7 +24,8 @@ fn build_drive<'a>(
     shape: &'a DriveShape,
     image: &'a mut [u8],
 ) -> Result<Base<'a>, AllocError>
-    ensures { IfOk result (IsBase shape.now image.entry) }
+    ensures built { IfOk result (IsBase shape.now image.entry) }
+    ensures refused { IfErr result (λ _. WaitsIn shape.now) }
 {
     let fuses = shape.fuses.as_slice();
     match shape.kind {
@@ -44,7 +45,8 @@ fn build_part<'a>(
     shape: &'a PartShape,
     image: &'a mut [u8],
 ) -> Result<Part<'a>, AllocError>
-    ensures { IfOk result (IsPart shape.now image.entry) }
+    ensures built { IfOk result (IsPart shape.now image.entry) }
+    ensures refused { IfErr result (λ _. WaitsIn shape.now.drive) }
 {
     let drive = build_drive(heap, &shape.drive, image)?;
     Ok(Offset::new(drive, shape.base))
@@ -57,7 +59,8 @@ fn build_whole<'a>(
     first: &'a mut [u8],
     second: &'a mut [u8],
 ) -> Result<Whole<'a>, AllocError>
-    ensures { IfOk result (IsWhole shape.now first.entry second.entry) }
+    ensures built { IfOk result (IsWhole shape.now first.entry second.entry) }
+    ensures refused { IfErr result (λ _. HasWriteBack shape.now) }
 {
     match shape {
         WholeShape::Part(part) => Ok(Either::First(build_part(heap, part, first)?)),
@@ -69,14 +72,16 @@ fn build_whole<'a>(
     }
 }
 
-/// The pile of a shape, over the images of its drives. A pile of one drive leaves the second image alone.
+/// The pile of a shape, over the images of its drives. A pile of one drive leaves the second image alone. Only a write-back
+/// drive takes memory, so no other pile is refused.
 pub fn build<'a>(
     heap: Global,
     shape: &'a PileShape,
     first: &'a mut [u8],
     second: &'a mut [u8],
 ) -> Result<Pile<'a>, AllocError>
-    ensures { IfOk result (IsPile shape.now first.entry second.entry) }
+    ensures built { IfOk result (IsPile shape.now first.entry second.entry) }
+    ensures refused { IfErr result (λ _. HasWriteBack shape.now.whole) }
 {
     let whole = build_whole(heap, &shape.whole, first, second)?;
     Ok(Offset::new(whole, shape.base))

@@ -6,7 +6,8 @@
 //!
 //! Proved: `Base` keeps the meaning of the drive that it holds (specs/Bases); the bytes of each drive's image are counted
 //! (specs/Shapes); what is built is, layer by layer, what the shape says, each drive over its own lent bytes and with the
-//! first of its fuses on (specs/Builds). Nothing is trusted but the toolchain.
+//! first of its fuses on, and no pile is refused but one with a write-back drive, for want of memory (specs/Builds). Nothing is
+//! trusted but the toolchain.
 #![tactic(auto)]
 
 pub use base::Base;
