@@ -1,7 +1,7 @@
 //! Why words are no pile.
 ghost use Rattle.std.specs.Prelude.{◌≡◌, Some};
 ghost use Rattle.pile_words.specs.Faults.{fault_text};
-ghost use Rattle.pile_words.specs.declared.fault.PileFault.TheVariants.{Number};
+ghost use Rattle.pile_words.specs.declared.fault.PileFault.TheVariants.{NoMemory, Number};
 
 use std::alloc::{AllocError, AllocFailed};
 use std::fmt;
@@ -55,12 +55,16 @@ impl From<NoNumber> for PileFault {
 }
 
 impl From<AllocError> for PileFault {
+    ghost from_gives = { λ _ f. f ≡ NoMemory };
+
     fn from(_e: AllocError) -> PileFault {
         PileFault::NoMemory
     }
 }
 
 impl<T: Drop> From<AllocFailed<T>> for PileFault {
+    ghost from_gives = { λ _ f. f ≡ NoMemory };
+
     fn from(_e: AllocFailed<T>) -> PileFault {
         PileFault::NoMemory
     }

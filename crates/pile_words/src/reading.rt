@@ -1,6 +1,7 @@
 //! Piles from words.
-ghost use Rattle.std.specs.Prelude.{◌≡◌, [], ◌∷◌, map, IfOk, MatchBool};
-ghost use Rattle.pile_words.specs.Spellings.{SpellsBase, SpellsCuts, SpellsDrive, SpellsFuse, SpellsFuses, SpellsPart, SpellsPile, SpellsWhole, NextWrites, kind_word, still};
+ghost use Rattle.std.specs.Prelude.{◌≡◌, [], ◌∷◌, map, IfErr, IfOk, MatchBool, MatchResult};
+ghost use Rattle.pile_words.specs.Spellings.{SpellsBase, SpellsCuts, SpellsDrive, SpellsFuse, SpellsFuses, SpellsPart, SpellsPile, SpellsWhole, NextWrites, NoKind, Other, kind_word, still};
+ghost use Rattle.pile_words.specs.declared.fault.PileFault.TheVariants.{Missing};
 
 use crate::PileFault;
 use crate::unread::Words;
@@ -12,7 +13,7 @@ use words::number;
 impl<'t> Words<'_, 't> {
     // Reads the next word, which is to say what is named.
     fn next(&mut self, what: &'static str) -> Result<&'t str, PileFault>
-        ensures { IfOk result (λ w. still self.old ≡ w.now ∷ still self.new) }
+        ensures { MatchResult result (λ w. still self.old ≡ w.now ∷ still self.new) (λ f. (f ≡ Missing what.entry) × (still self.old ≡ [])) }
     {
         match self.left {
             [word, rest @ ..] => {
@@ -32,7 +33,7 @@ impl<'t> Words<'_, 't> {
 
     // Reads the next word where it is this one.
     fn take(&mut self, word: &str) -> bool
-        ensures { MatchBool result (still self.old ≡ word.now ∷ still self.new) (still self.new ≡ still self.old) }
+        ensures { MatchBool result (still self.old ≡ word.now ∷ still self.new) ((still self.new ≡ still self.old) × Other word.now (still self.old)) }
     {
         if let [next, rest @ ..] = self.left {
             if *next == word {
@@ -59,7 +60,8 @@ fn fuse_of(text: &str) -> Result<Fuse, PileFault>
 // No FromStr: `offset` and `mirror`, which are no kinds of drive, get a refusal of their own, and a type around DriveKind would be
 // made only to be taken apart.
 fn kind_of(word: &str) -> Result<DriveKind, PileFault>
-    ensures { IfOk result (λ k. word.now ≡ kind_word k) }
+    ensures kind { IfOk result (λ k. word.now ≡ kind_word k) }
+    ensures refused { IfErr result (NoKind word.now) }
 {
     match word {
         "direct" => Ok(DriveKind::Direct),
