@@ -1,5 +1,5 @@
 -- The lines that are printed.
-use Rattle.std.specs.Prelude.{ℕ, List, ◌++◌, codes, decimal}
+use Rattle.std.specs.Prelude.{◌≡◌, ℕ, List, ◌++◌, codes, decimal}
 use Rattle.records.specs.declared.commands.Side.{Side}
 use Rattle.records.specs.declared.commands.Side.TheVariants.{Buy, Sell}
 use Rattle.records.specs.declared.commands.Command.{Command}
@@ -12,6 +12,10 @@ use Rattle.market.specs.declared.orders.Order.{Order}
 abbrev pub side_word : Side → List ℕ
 side_word Buy = codes "buy"
 side_word Sell = codes "sell"
+
+-- the word is no side's
+abbrev pub NoSideWord : List ℕ → Type 0
+NoSideWord w = (s : Side) → w ≡ side_word s → ⊥
 
 -- a command that was taken, under its number
 abbrev pub command_text : ℕ → Command → List ℕ

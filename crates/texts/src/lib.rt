@@ -1,6 +1,6 @@
 //! The lines that tell what was done.
 //!
-//! Proved: the printed line of a command, a notice or a resting order has the defined bytes, and a side is read only from its word.
+//! Proved: the printed line of a command, a notice or a resting order has the defined bytes, and a side is read from its word, and from no other.
 //! Trusted: the toolchain.
 #![tactic(auto)]
 

@@ -1,6 +1,6 @@
 //! The lines that tell what was done.
-ghost use Rattle.std.specs.Prelude.{◌≡◌, Some, IfOk};
-ghost use Rattle.texts.specs.Texts.{side_word, command_text, told_text, notice_text, order_text};
+ghost use Rattle.std.specs.Prelude.{◌≡◌, Some, MatchResult};
+ghost use Rattle.texts.specs.Texts.{side_word, NoSideWord, command_text, told_text, notice_text, order_text};
 
 use market::orders::Order;
 use records::commands::{Command, Side};
@@ -32,7 +32,7 @@ pub struct NoSide;
 impl FromStr for SideWord {
     type Err = NoSide;
 
-    ghost from_str_gives = { λ word r. IfOk r (λ s. word ≡ side_word s.0) };
+    ghost from_str_gives = { λ word r. MatchResult r (λ s. word ≡ side_word s.0) (λ _. NoSideWord word) };
 
     fn from_str(word: &str) -> Result<SideWord, NoSide> {
         match word {

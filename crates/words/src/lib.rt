@@ -1,11 +1,12 @@
 //! Commands from words.
 //!
-//! Proved: words are read only as the command that they spell, and a number only as the text writes it.
+//! Proved: words are read as the command that they spell, and a text as the number that it writes; they are refused only where
+//! they spell no command, or write no number, that fits. Not proved: which fault is told.
 //! Trusted: the toolchain.
 #![tactic(auto)]
 
-ghost use Rattle.std.specs.Prelude.{◌≡◌, map, IfOk};
-ghost use Rattle.words.specs.Spellings.{Enters, Cancels, Spells};
+ghost use Rattle.std.specs.Prelude.{◌≡◌, ◌∷◌, map, codes, MatchResult};
+ghost use Rattle.words.specs.Spellings.{Spells, SpellsNone};
 ghost use Rattle.words.specs.declared.LineFault.TheVariants.{Number};
 ghost use Rattle.words.specs.declared.LineFault.TheVariants as line;
 
@@ -75,14 +76,18 @@ impl From<NoSide> for LineFault {
 pub fn number<N: FromStr>(text: &str, what: &'static str) -> Result<N, NoNumber>
 where
     N::Err: Drop,
-    ensures { IfOk result (λ n. N.from_str_gives text.now (Ok n)) }
+    ensures { MatchResult result (λ n. N.from_str_gives text.now (Ok n)) (λ f. (f.0.now ≡ what.now) × ((e : N.Err) × N.from_str_gives text.now (Err e))) }
 {
     text.parse().map_err(|_| NoNumber(what))
 }
 
-fn enter_of(member: &str, side: &str, price: &str, lots: &str) -> Result<Command, LineFault>
-    ensures { IfOk result (Enters member.now side.now price.now lots.now) }
+// The words after "enter".
+fn enter_of(words: &[&str]) -> Result<Command, LineFault>
+    ensures { MatchResult result (Spells (codes "enter" ∷ map (λ x. x.now) words.now)) (λ _. SpellsNone (codes "enter" ∷ map (λ x. x.now) words.now)) }
 {
+    let [member, side, price, lots] = words else {
+        return Err(LineFault::Form("enter MEMBER buy|sell PRICE LOTS"));
+    };
     Ok(Command::Enter {
         member: Member(number(member, "member")?),
         side: side.parse::<SideWord>()?.0,
@@ -91,26 +96,37 @@ fn enter_of(member: &str, side: &str, price: &str, lots: &str) -> Result<Command
     })
 }
 
-fn cancel_of(member: &str, order: &str) -> Result<Command, LineFault>
-    ensures { IfOk result (Cancels member.now order.now) }
+// The words after "cancel".
+fn cancel_of(words: &[&str]) -> Result<Command, LineFault>
+    ensures { MatchResult result (Spells (codes "cancel" ∷ map (λ x. x.now) words.now)) (λ _. SpellsNone (codes "cancel" ∷ map (λ x. x.now) words.now)) }
 {
+    let [member, order] = words else {
+        return Err(LineFault::Form("cancel MEMBER ORDER"));
+    };
     Ok(Command::Cancel {
         member: Member(number(member, "member")?),
         order: CommandNumber(number(order, "order")?),
     })
 }
 
-/// The command that the words spell, whether or not its numbers lie in their ranges.
-pub fn command_of(words: &[&str]) -> Result<Command, LineFault>
-    ensures { IfOk result (Spells (map (λ x. x.now) words.now)) }
+// The words after "cross".
+fn cross_of(words: &[&str]) -> Result<Command, LineFault>
+    ensures { MatchResult result (Spells (codes "cross" ∷ map (λ x. x.now) words.now)) (λ _. SpellsNone (codes "cross" ∷ map (λ x. x.now) words.now)) }
 {
     match words {
-        ["enter", member, side, price, lots] => enter_of(member, side, price, lots),
-        ["cancel", member, order] => cancel_of(member, order),
-        ["cross"] => Ok(Command::Cross),
-        ["enter", ..] => Err(LineFault::Form("enter MEMBER buy|sell PRICE LOTS")),
-        ["cancel", ..] => Err(LineFault::Form("cancel MEMBER ORDER")),
-        ["cross", ..] => Err(LineFault::Form("cross")),
+        [] => Ok(Command::Cross),
+        _ => Err(LineFault::Form("cross")),
+    }
+}
+
+/// The command that the words spell, whether or not its numbers lie in their ranges; words that are refused spell none.
+pub fn command_of(words: &[&str]) -> Result<Command, LineFault>
+    ensures { MatchResult result (Spells (map (λ x. x.now) words.now)) (λ _. SpellsNone (map (λ x. x.now) words.now)) }
+{
+    match words {
+        ["enter", words @ ..] => enter_of(words),
+        ["cancel", words @ ..] => cancel_of(words),
+        ["cross", words @ ..] => cross_of(words),
         _ => Err(LineFault::UnknownCommand),
     }
 }
