@@ -213,7 +213,7 @@ module _ (s : Side) (o : Order) (n : ℕ) (own opposite : List Order) (new : o.n
         simp (e, c) (record {
           told = λ v i. ⊎_elim
               (λ j. inl (fills_fair ((met s o opposite).fills ++ d) (λ w k. append_in w (met s o opposite).fills d k) v j))
-              (λ j. inr (⊎_elim (λ k. ap (λ w. w.kind) k) (λ k. absurd k) j)) (in_append v (met s o opposite).fills d i);
+              (λ j. inr (⊎_elim (λ k. (t, met_taker s o opposite, k)) (λ k. absurd k) j)) (in_append v (met s o opposite).fills d i);
           adds = omega (arith, met_adds s o opposite, total_append (met s o opposite).fills d, none_open o.number.0 own o refl (fresh o refl));
           own_stays = λ q i. i;
           opposite_stays = λ q i a. met_stays s q o opposite i a;

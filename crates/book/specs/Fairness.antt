@@ -5,11 +5,10 @@ use Rattle.records.specs.declared.commands.Side.{Side}
 use Rattle.records.specs.declared.commands.Side.TheVariants.{Buy, Sell}
 use Rattle.records.specs.declared.commands.Command.{Command}
 use Rattle.records.specs.declared.commands.Command.TheVariants.{Enter, Cancel, Cross}
-use Rattle.records.specs.declared.notices.Kind.TheVariants.{Dropped}
 use Rattle.records.specs.declared.notices.Notice.{Notice}
 use Rattle.market.specs.declared.orders.Order.{Order}
 use Rattle.market.specs.Lists.{In}
-use Rattle.market.specs.Orders.{before, other, accepts, total}
+use Rattle.market.specs.Orders.{before, other, accepts, total, dropped}
 use Rattle.market.specs.Resting.{Resting, arriving}
 use Rattle.book.specs.Matching.{fill_with}
 
@@ -38,6 +37,10 @@ pub record FairFill (s : Side) (o : Order) (opposite : List Order) (ns : List No
   -- and whoever stood before that order was filled whole by the same command
   pub first : (q : Order) → In q opposite → before (other s) q resting ≡ true → In (fill_with s o q q.lots.0) ns
 
+-- the notice v tells that what is left of the order o is dropped
+abbrev pub DropOf : Order → Notice → Type 0
+DropOf o v = (p : Order) × LeftOf o p × (v ≡ dropped p)
+
 -- the lots that rest of the order with this number
 abbrev pub open_lots : ℕ → List Order → ℕ
 open_lots n [] = 0
@@ -45,8 +48,8 @@ open_lots n (x ∷ xs) = cond (x.number.0 == n) x.lots.0 (open_lots n xs)
 
 -- an order o has entered a side
 pub record Entry (s : Side) (o : Order) (own opposite own' opposite' : List Order) (ns : List Notice) : Type 0 where
-  -- each notice is a fair fill, or says that what is left of it is dropped
-  pub told : (v : Notice) → In v ns → FairFill s o opposite ns v ⊎ (v.kind ≡ Dropped)
+  -- each notice is a fair fill, or tells that what is left of it is dropped
+  pub told : (v : Notice) → In v ns → FairFill s o opposite ns v ⊎ DropOf o v
   -- its lots are filled, dropped or rest, and none is lost
   pub adds : total ns + open_lots o.number.0 own' ≡ o.lots.0
   -- no order is touched that it does not meet
