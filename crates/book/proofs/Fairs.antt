@@ -10,7 +10,7 @@ use Rattle.records.specs.declared.commands.Command.TheVariants.{Enter, Cancel, C
 use Rattle.records.specs.declared.notices.Notice.{Notice}
 use Rattle.market.specs.declared.orders.Order.{Order}
 use Rattle.market.specs.Lists.{all, pairwise, placed, In}
-use Rattle.market.specs.Orders.{before, other, accepts, total, kept, differ, less, dropped}
+use Rattle.market.specs.Orders.{before, other, accepts, lots_in, total, kept, differ, less, dropped}
 use Rattle.market.specs.Resting.{Resting, arriving}
 use Rattle.market.specs.Steps.{Taken}
 use Rattle.market.proofs.ListLaws.{all_weaken, all_in}
@@ -18,7 +18,7 @@ use Rattle.market.proofs.Sounds.{SideSound, all_new}
 use Rattle.market.proofs.StepLaws.{stepped_acts, taken_tells}
 use Rattle.book.specs.Matching.{trades, fill_with, met, traded}
 use Rattle.book.specs.Steps.{Valid, entered, acted, book_step}
-use Rattle.book.specs.Fairness.{side_of, LeftOf, FairFill, open_lots, Entry, Fair}
+use Rattle.book.specs.Fairness.{side_of, LeftOf, FairFill, open_lots, traded_lots, filled, Entry, Fair}
 use Rattle.book.specs.Meetings.{met_ind}
 use Rattle.book.specs.Sounds.{book_fact, met_taker}
 use Rattle.book.specs.Laws.{keeps, uncrossed}
@@ -126,6 +126,21 @@ total_append : (xs ys : List Notice) → total (xs ++ ys) ≡ total xs + total y
 total_append [] ys = omega arith
 total_append (x ∷ xs) ys = omega (arith, total_append xs ys)
 
+-- the other side's lots add up
+fill_filled : (s : Side) (o r : Order) (n : ℕ) → traded_lots (fill_with s o r n).kind (fill_with s o r n) ≡ n
+fill_filled Buy o r n = refl
+fill_filled Sell o r n = refl
+
+met_takes : (s : Side) (o : Order) (rs : List Order) → lots_in (met s o rs).rows + filled (met s o rs).fills ≡ lots_in rs
+met_takes s = met_ind s (λ o rs m. lots_in m.rows + filled m.fills ≡ lots_in rs)
+    (λ o. refl) (λ o r rs t. omega arith)
+    (λ o r rs t l. omega (arith, fill_filled s o r o.lots.0, l))
+    (λ o r rs m t l k. omega (arith, fill_filled s o r r.lots.0, k))
+
+filled_append : (xs ys : List Notice) → filled (xs ++ ys) ≡ filled xs + filled ys
+filled_append [] ys = omega arith
+filled_append (x ∷ xs) ys = omega (arith, filled_append xs ys)
+
 none_open : (n : ℕ) (xs : List Order) (o : Order) → o.number.0 ≡ n → all (differ o) xs ≡ true → open_lots n xs ≡ 0
 none_open n [] o e h = refl
 none_open n (x ∷ xs) o e h =
@@ -191,6 +206,7 @@ module _ (s : Side) (o : Order) (n : ℕ) (own opposite : List Order) (new : o.n
         simp e (record {
           told = λ v i. inl (fills_fair (met s o opposite).fills (λ w j. j) v i);
           adds = omega (arith, met_adds s o opposite, none_open o.number.0 own o refl (fresh o refl));
+          opposite_adds = met_takes s o opposite;
           own_stays = λ q i. i;
           opposite_stays = λ q i a. met_stays s q o opposite i a;
           own_comes = λ q i. inl i;
@@ -202,6 +218,7 @@ module _ (s : Side) (o : Order) (n : ℕ) (own opposite : List Order) (new : o.n
         simp (e, c) (record {
           told = λ v i. inl (fills_fair ((met s o opposite).fills ++ []) (λ w j. append_in w (met s o opposite).fills [] j) v (subst (λ xs. In v xs) (append-nil _) i));
           adds = omega (arith, met_adds s o opposite, total_append (met s o opposite).fills [], placed_open (before s) o.number.0 own t (ap (λ x. x.0) l.number) (fresh t l.number));
+          opposite_adds = omega (arith, met_takes s o opposite, filled_append (met s o opposite).fills []);
           own_stays = λ q i. placed_in (before s) t q own i;
           opposite_stays = λ q i a. met_stays s q o opposite i a;
           own_comes = λ q i. ⊎_elim (λ j. inl j) (λ k. inr (subst (LeftOf o) (sym k) l)) (in_placed (before s) t q own i);
@@ -215,6 +232,7 @@ module _ (s : Side) (o : Order) (n : ℕ) (own opposite : List Order) (new : o.n
               (λ j. inl (fills_fair ((met s o opposite).fills ++ d) (λ w k. append_in w (met s o opposite).fills d k) v j))
               (λ j. inr (⊎_elim (λ k. (t, met_taker s o opposite, k)) (λ k. absurd k) j)) (in_append v (met s o opposite).fills d i);
           adds = omega (arith, met_adds s o opposite, total_append (met s o opposite).fills d, none_open o.number.0 own o refl (fresh o refl));
+          opposite_adds = omega (arith, met_takes s o opposite, filled_append (met s o opposite).fills d);
           own_stays = λ q i. i;
           opposite_stays = λ q i a. met_stays s q o opposite i a;
           own_comes = λ q i. inl i;

@@ -5,10 +5,12 @@ use Rattle.records.specs.declared.commands.Side.{Side}
 use Rattle.records.specs.declared.commands.Side.TheVariants.{Buy, Sell}
 use Rattle.records.specs.declared.commands.Command.{Command}
 use Rattle.records.specs.declared.commands.Command.TheVariants.{Enter, Cancel, Cross}
+use Rattle.records.specs.declared.notices.Kind.{Kind}
+use Rattle.records.specs.declared.notices.Kind.TheVariants.{Fill, Dropped, Cancelled}
 use Rattle.records.specs.declared.notices.Notice.{Notice}
 use Rattle.market.specs.declared.orders.Order.{Order}
 use Rattle.market.specs.Lists.{In}
-use Rattle.market.specs.Orders.{before, other, accepts, total, dropped}
+use Rattle.market.specs.Orders.{before, other, accepts, lots_in, total, dropped}
 use Rattle.market.specs.Resting.{Resting, arriving}
 use Rattle.book.specs.Matching.{fill_with}
 
@@ -46,12 +48,25 @@ abbrev pub open_lots : ℕ → List Order → ℕ
 open_lots n [] = 0
 open_lots n (x ∷ xs) = cond (x.number.0 == n) x.lots.0 (open_lots n xs)
 
+-- the lots of a notice that is a fill
+abbrev pub traded_lots : Kind → Notice → ℕ
+traded_lots Fill v = v.lots.0
+traded_lots Dropped v = 0
+traded_lots Cancelled v = 0
+
+-- the lots of all fills
+abbrev pub filled : List Notice → ℕ
+filled [] = 0
+filled (v ∷ vs) = traded_lots v.kind v + filled vs
+
 -- an order o has entered a side
 pub record Entry (s : Side) (o : Order) (own opposite own' opposite' : List Order) (ns : List Notice) : Type 0 where
   -- each notice is a fair fill, or tells that what is left of it is dropped
   pub told : (v : Notice) → In v ns → FairFill s o opposite ns v ⊎ DropOf o v
   -- its lots are filled, dropped or rest, and none is lost
   pub adds : total ns + open_lots o.number.0 own' ≡ o.lots.0
+  -- the other side has the lots that were filled less, and loses no more
+  pub opposite_adds : lots_in opposite' + filled ns ≡ lots_in opposite
   -- no order is touched that it does not meet
   pub own_stays : (q : Order) → In q own → In q own'
   pub opposite_stays : (q : Order) → In q opposite → accepts s o.price.0 q.price.0 ≡ false → In q opposite'

@@ -11,13 +11,13 @@ use Rattle.records.specs.declared.commands.Command.TheVariants.{Enter, Cancel, C
 use Rattle.records.specs.declared.notices.Notice.{Notice}
 use Rattle.market.specs.declared.orders.Order.{Order}
 use Rattle.market.specs.Lists.{all, In}
-use Rattle.market.specs.Orders.{accepts, kept, less, reduced, fill, total}
+use Rattle.market.specs.Orders.{accepts, kept, less, reduced, fill, total, lots_in}
 use Rattle.market.specs.Resting.{Resting, next}
 use Rattle.market.specs.Steps.{Taken}
 use Rattle.market.proofs.ListLaws.{all_weaken}
 use Rattle.market.proofs.Sounds.{sound_fact}
 use Rattle.market.proofs.StepLaws.{stepped_acts, taken_tells}
-use Rattle.call.specs.Clearing.{lots_in, at_price, clearing}
+use Rattle.call.specs.Clearing.{at_price, clearing}
 use Rattle.call.specs.Crossing.{taken, pair_lots, pair, pairs, Fillable}
 use Rattle.call.specs.Fairness.{Rests, matched_at, Idle, FairPair, FilledInRank, Crossing, Fair}
 use Rattle.call.specs.Steps.{Valid, crossed, acted, call_step}

@@ -6,13 +6,8 @@ use Rattle.records.specs.declared.numbers.Price.{Price}
 use Rattle.records.specs.declared.commands.Side.{Side}
 use Rattle.records.specs.declared.commands.Side.TheVariants.{Buy, Sell}
 use Rattle.market.specs.declared.orders.Order.{Order}
-use Rattle.market.specs.Orders.{accepts}
+use Rattle.market.specs.Orders.{accepts, lots_in}
 use Rattle.call.specs.declared.clearing.Clearing.{Clearing}
-
--- the lots of all orders
-abbrev pub lots_in : List Order → ℕ
-lots_in [] = 0
-lots_in (x ∷ xs) = x.lots.0 + lots_in xs
 
 -- the lots of an order of a side, where it accepts price p
 abbrev pub lots_at : Side → ℕ → Order → ℕ

@@ -6,9 +6,9 @@ use Rattle.std.proofs.lemmas.List.Sums.{sum_by-cons}
 use Rattle.records.specs.declared.commands.Side.{Side}
 use Rattle.market.specs.declared.orders.Order.{Order}
 use Rattle.market.specs.Lists.{In}
-use Rattle.market.specs.Orders.{accepts}
+use Rattle.market.specs.Orders.{accepts, lots_in}
 use Rattle.call.specs.declared.clearing.Clearing.{Clearing}
-use Rattle.call.specs.Clearing.{lots_in, offered, at_price, matched, preferred, best, no_clearing, clearing, lots_at, FewLots}
+use Rattle.call.specs.Clearing.{offered, at_price, matched, preferred, best, no_clearing, clearing, lots_at, FewLots}
 
 pub offered_within : (s : Side) (p : ℕ) (xs : List Order) → offered s p xs ≤ lots_in xs
 offered_within s p [] = omega arith

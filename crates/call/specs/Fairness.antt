@@ -7,9 +7,9 @@ use Rattle.records.specs.declared.commands.Command.TheVariants.{Enter, Cancel, C
 use Rattle.records.specs.declared.notices.Notice.{Notice}
 use Rattle.market.specs.declared.orders.Order.{Order}
 use Rattle.market.specs.Lists.{In}
-use Rattle.market.specs.Orders.{less, fill, total}
+use Rattle.market.specs.Orders.{less, fill, total, lots_in}
 use Rattle.market.specs.Resting.{Resting, next, passed}
-use Rattle.call.specs.Clearing.{lots_in, matched}
+use Rattle.call.specs.Clearing.{matched}
 
 -- an order rests, on whichever side
 abbrev pub Rests : Resting → Order → Type 0

@@ -10,13 +10,13 @@ use Rattle.records.specs.declared.commands.Side.TheVariants.{Buy, Sell}
 use Rattle.records.specs.declared.notices.Notice.{Notice}
 use Rattle.market.specs.declared.orders.Order.{Order}
 use Rattle.market.specs.Lists.{all, across, placed}
-use Rattle.market.specs.Orders.{before, differ, kept, less, rested}
+use Rattle.market.specs.Orders.{before, differ, kept, less, rested, lots_in}
 use Rattle.market.specs.Resting.{Resting, next, passed, withdrawn}
 use Rattle.market.specs.Steps.{Taken}
 use Rattle.market.proofs.ListLaws.{all_weaken, all_placed, across_swap}
 use Rattle.market.proofs.Sounds.{SideSound, sound_fact, sound_test, side_up, side_tail, side_less, side_placed, all_new, differ_swap, passed_sound, withdrawn_sound}
 use Rattle.call.specs.declared.clearing.Clearing.{Clearing}
-use Rattle.call.specs.Clearing.{lots_in, offered, clearing, FewLots, Summable}
+use Rattle.call.specs.Clearing.{offered, clearing, FewLots, Summable}
 use Rattle.call.specs.Crossing.{taken, Fillable, PairedAll}
 use Rattle.call.specs.Steps.{Valid, entered, crossed_at, crossed}
 use Rattle.call.specs.Clearings.{clearing_matched}

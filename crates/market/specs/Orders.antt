@@ -70,6 +70,11 @@ fill c buy sell p n = record { number = record { 0 = 0 }; command = c; kind = Fi
 abbrev pub lots_of : Kind → CommandNumber → Order → Notice
 lots_of k c o = record { number = record { 0 = 0 }; command = c; kind = k; a = party o; b = nobody; price = record { 0 = 0 }; lots = o.lots }
 
+-- the lots of all orders
+abbrev pub lots_in : List Order → ℕ
+lots_in [] = 0
+lots_in (x ∷ xs) = x.lots.0 + lots_in xs
+
 -- the lots of all notices
 abbrev pub total : List Notice → ℕ
 total [] = 0
