@@ -1,5 +1,5 @@
 //! A day of commands in one market, with no journal behind it.
-ghost use Rattle.std.specs.Prelude.{◌*◌, ◌≤◌};
+ghost use Rattle.std.specs.Prelude.{◌≡◌, ◌*◌, ◌≤◌};
 
 use market::interface::Market;
 use records::notices::Notice;
@@ -16,4 +16,5 @@ pub struct Day<M: Market> {
     commands: CommandNumber,
     notices: NoticeNumber,
     ghost few: { (commands.0 ≤ 1000000000000) × (notices.0 ≤ 64 * commands.0) },
+    ghost counted: { M.count (M.means market) ≡ commands.0 },
 }
