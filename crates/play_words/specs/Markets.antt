@@ -9,6 +9,10 @@ abbrev pub market_word : MarketKind → List ℕ
 market_word kind.Book = codes "book"
 market_word kind.Call = codes "call"
 
+-- the word is no market's
+abbrev pub NoMarketWord : List ℕ → Type 0
+NoMarketWord w = (m : MarketKind) → w ≡ market_word m → ⊥
+
 -- What a word that names no market is answered: which words were expected.
 abbrev pub AsksMarket : PlayFault → Type 0
 AsksMarket (Form what) = what.now ≡ codes "market book|call"

@@ -9,7 +9,12 @@ use Rattle.play_words.specs.Markets.{market_word}
 use Rattle.play_words.specs.Spellings.{SpellsCall}
 use Rattle.play_words.specs.declared.script.MarketKind.{MarketKind}
 use Rattle.play_words.specs.declared.script.Reader.{Reader}
+use Rattle.play_words.specs.declared.script.Script.{Script}
 use Rattle.play_words.specs.declared.script.Reader.TheVariants as reader
+
+-- set up was not said, so there is no script yet
+abbrev pub Unfinished : Reader → Type 0
+Unfinished x = (s : Script) → x ≡ reader.Calls s → ⊥
 
 -- the house, the market or the device is said, which was not before
 abbrev pub SaysHouse : List ℕ → Reader → Reader → Type 0

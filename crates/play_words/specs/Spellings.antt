@@ -1,5 +1,5 @@
 -- The words that spell a call. Assumes nothing.
-use Rattle.std.specs.Prelude.{◌≡◌, ℕ, ◌+◌, ◌*◌, ◌≤◌, ◌⊎◌, List, [], ◌∷◌, vec_items, codes}
+use Rattle.std.specs.Prelude.{◌≡◌, ℕ, ◌+◌, ◌*◌, ◌^◌, ◌<◌, ◌≤◌, ◌⊎◌, List, [], ◌∷◌, vec_items, codes}
 use Rattle.records.specs.Commands.{encoded}
 use Rattle.records.specs.declared.commands.Command.{Command}
 use Rattle.words.specs.Spellings.{Writes, Spells}
@@ -31,6 +31,10 @@ abbrev pub Lends : List (List ℕ) → ℕ → Type 0
 Lends [] n = n ≡ 1024
 Lends (w ∷ []) n = Writes w n
 Lends (w ∷ (v ∷ ws)) n = ⊥
+
+-- they are of no length that fits 64 bits
+abbrev pub LendsNone : List (List ℕ) → Type 0
+LendsNone ws = (n : ℕ) → n < 2 ^ 64 → Lends ws n → ⊥
 
 abbrev pub SpellsCall : List (List ℕ) → Call → Type 0
 SpellsCall ws (Stage v) = (rest : List (List ℕ)) × (ws ≡ codes "stage" ∷ rest) × Stages rest (vec_items v)

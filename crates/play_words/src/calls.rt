@@ -1,6 +1,6 @@
 //! Calls from words.
-ghost use Rattle.std.specs.Prelude.{map, IfOk};
-ghost use Rattle.play_words.specs.Spellings.{Stages, Lends, SpellsCall, SpellsBytes};
+ghost use Rattle.std.specs.Prelude.{map, IfOk, MatchResult};
+ghost use Rattle.play_words.specs.Spellings.{Stages, Lends, LendsNone, SpellsCall, SpellsBytes};
 
 use crate::faults::PlayFault;
 use runner::script::Call;
@@ -35,7 +35,7 @@ fn stage_of(heap: Global, words: &[&str]) -> Result<Vec<u8>, PlayFault>
 
 // The room of the list that is lent.
 fn room_of(words: &[&str], form: &'static str) -> Result<usize, PlayFault>
-    ensures { IfOk result (λ n. Lends (map (λ x. x.now) words.now) n) }
+    ensures { MatchResult result (λ n. Lends (map (λ x. x.now) words.now) n) (λ _. LendsNone (map (λ x. x.now) words.now)) }
 {
     match words {
         [] => Ok(ROOM),

@@ -1,7 +1,7 @@
 //! A whole script.
-ghost use Rattle.std.specs.Prelude.{◌≡◌, map, IfOk, None, OnOk};
-ghost use Rattle.play_words.specs.Markets.{market_word, AsksMarket};
-ghost use Rattle.play_words.specs.Scripts.{SaysHouse, SaysMarket, SaysPile, SaysSetup, Calls, Took};
+ghost use Rattle.std.specs.Prelude.{◌≡◌, map, None, OnOk, MatchResult};
+ghost use Rattle.play_words.specs.Markets.{market_word, NoMarketWord, AsksMarket};
+ghost use Rattle.play_words.specs.Scripts.{Unfinished, SaysHouse, SaysMarket, SaysPile, SaysSetup, Calls, Took};
 ghost use Rattle.play_words.specs.declared.script.Reader.TheVariants as reader;
 
 use crate::calls::call_of;
@@ -28,7 +28,7 @@ pub struct NoMarket;
 impl FromStr for MarketKind {
     type Err = NoMarket;
 
-    ghost from_str_gives = { λ word r. IfOk r (λ m. word ≡ market_word m) };
+    ghost from_str_gives = { λ word r. MatchResult r (λ m. word ≡ market_word m) (λ _. NoMarketWord word) };
 
     fn from_str(word: &str) -> Result<MarketKind, NoMarket> {
         match word {
@@ -71,7 +71,7 @@ pub enum Reader {
 
 // That what is named was not said before.
 fn unsaid<T>(slot: &Option<T>, what: &'static str) -> Result<(), PlayFault>
-    ensures { OnOk result (slot.now ≡ None) }
+    ensures { MatchResult result (λ _. slot.now ≡ None) (λ _. slot.now ≡ None → ⊥) }
 {
     match slot {
         None => Ok(()),
@@ -175,7 +175,7 @@ impl Reader {
 
     /// The script, at its end.
     pub fn finish(self) -> Result<Script, PlayFault>
-        ensures { IfOk result (λ s. self ≡ reader.Calls s) }
+        ensures { MatchResult result (λ s. self ≡ reader.Calls s) (λ _. Unfinished self) }
     {
         match self {
             Reader::Calls(script) => Ok(script),
