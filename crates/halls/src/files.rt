@@ -1,6 +1,8 @@
 //! Files by their names: those that an exchange is set up on, and those that hold an image.
-ghost use Rattle.std.specs.Prelude.{◌≡◌, ◌*◌, ℕ, true, IfOk, vec_len};
+ghost use Rattle.std.specs.Prelude.{◌≡◌, ◌≢◌, ◌*◌, ℕ, true, IfOk, vec_len};
+ghost use Rattle.std.specs.IoError.{error_kind};
 ghost use Rattle.journal.specs.Places.{size_good};
+ghost use Rattle.halls.specs.Files.{SaidOf, SaidOfMade};
 
 use crate::faults::HallFault;
 use crate::sizes::ImageSize;
@@ -11,7 +13,9 @@ use std::os::unix::fs::MetadataExt;
 use std::{fs, io};
 
 /// What the system says of the file of this name.
-pub fn fault_of(heap: Global, name: &str, error: io::Error) -> HallFault {
+pub fn fault_of(heap: Global, name: &str, error: io::Error) -> HallFault
+    ensures { SaidOf name.now (error_kind error) result }
+{
     let Ok(name) = String::from_str(heap, name) else {
         return HallFault::NoMemory;
     };
@@ -50,7 +54,9 @@ fn place_of<'w>(rt: &HostRuntime, name: &'w str, force: bool) -> Result<Place<'w
 }
 
 // Why a file cannot be opened or made: one that is not found has no folder.
-fn making_fault(heap: Global, name: &str, error: io::Error) -> HallFault {
+fn making_fault(heap: Global, name: &str, error: io::Error) -> HallFault
+    ensures { SaidOfMade name.now (error_kind error) result }
+{
     match fault_of(heap, name, error) {
         HallFault::NoFile(name) => HallFault::NoFolder(name),
         fault => fault,
@@ -131,7 +137,9 @@ pub(crate) fn make_files(
     names: (&str, &str),
     force: bool,
     size: ImageSize,
-) -> Result<(File, File), HallFault> {
+) -> Result<(File, File), HallFault>
+    ensures { IfOk result (λ _. names.entry.0.now ≢ names.entry.1.now) }
+{
     if names.0 == names.1 {
         return Err(HallFault::OneFile);
     }

@@ -1,8 +1,9 @@
 //! What an opening makes of an image.
-ghost use Rattle.std.specs.Prelude.{◌≡◌};
+ghost use Rattle.std.specs.Prelude.{◌≡◌, IfOk};
 ghost use Rattle.image.specs.Image.{bytes_of, seen};
 ghost use Rattle.journal.specs.Slots.{header_place};
-ghost use Rattle.halls.specs.Openings.{taken_slot, bytes_or_zeros};
+ghost use Rattle.halls.specs.Codes.{code_of};
+ghost use Rattle.halls.specs.Openings.{taken_slot, bytes_or_zeros, OpenedAs};
 
 use crate::courses::{Course, replay_all};
 use crate::faults::HallFault;
@@ -65,7 +66,9 @@ fn open_in<R: Rules>(
     image: &mut [u8],
     owner: Owner,
     market: MarketKind,
-) -> Result<Opening, AllocError> {
+) -> Result<Opening, AllocError>
+    ensures { IfOk result (OpenedAs image.old owner market R.CODE) }
+{
     let zero = header_sector(image, Slot::Zero);
     let one = header_sector(image, Slot::One);
     let slot = taken::<R>(&zero, &one, owner.house);
@@ -95,7 +98,9 @@ fn open_as(
     image: &mut [u8],
     owner: Owner,
     market: MarketKind,
-) -> Result<Opening, AllocError> {
+) -> Result<Opening, AllocError>
+    ensures { IfOk result (OpenedAs image.old owner market (code_of market)) }
+{
     match market {
         MarketKind::Book => open_in::<Continuous>(heap, image, owner, market),
         MarketKind::Call => open_in::<Crossing>(heap, image, owner, market),

@@ -1,4 +1,7 @@
 //! An exchange set up on a file, or on a mirror of two.
+ghost use Rattle.std.specs.Prelude.{◌≡◌, ◌≢◌, true, OnOk};
+ghost use Rattle.journal.specs.Places.{size_good};
+
 use crate::faults::HallFault;
 use crate::files::{make_file, make_files};
 use crate::markets::MarketWord;
@@ -96,7 +99,9 @@ fn print_setting(rt: &HostRuntime, setting: Setting) -> io::Result<()> {
 }
 
 /// Makes the file, or both, and sets the exchange up. What can be refused before a file is made or changed is refused then.
-pub fn set_up_file(rt: &HostRuntime, setting: Setting) -> Result<(), HallFault> {
+pub fn set_up_file(rt: &HostRuntime, setting: Setting) -> Result<(), HallFault>
+    ensures { OnOk result ((setting.entry.house.0 ≢ 0) × (size_good setting.entry.sectors ≡ true)) }
+{
     if setting.house.0 == 0 {
         return Err(HallFault::SetUp(ExchangeFault::from(Refusal::NoHouse)));
     }

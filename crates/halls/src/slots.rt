@@ -1,4 +1,8 @@
 //! The snapshots of an image.
+ghost use Rattle.std.specs.Prelude.{◌≡◌};
+ghost use Rattle.journal.specs.Slots.{body_place};
+ghost use Rattle.halls.specs.Bodies.{row_of_sectors};
+
 use crate::faults::HallFault;
 use crate::markets::{MarketWord, market_of};
 use crate::sectors::{TORN, is_blank};
@@ -17,7 +21,9 @@ use ruled_market::shape::RestingMarket;
 use std::io;
 
 // The body of a slot; none where a sector of it is torn.
-fn read_body(image: &[u8], slot: Slot) -> Option<[u8; 1536]> {
+fn read_body(image: &[u8], slot: Slot) -> Option<[u8; 1536]>
+    ensures { result ≡ row_of_sectors image.now (body_place slot) 3 }
+{
     let at = slot.body_sector();
     let mut body = [0; 1536];
     for i in 0..3 {
