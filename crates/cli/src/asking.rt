@@ -1,4 +1,12 @@
 //! The job that the words of the command line ask for.
+ghost use Rattle.std.specs.Prelude.{◌≡◌, ◌≤◌, [], ◌∷◌, map, IfOk, MatchOption, MatchResult};
+ghost use Rattle.words.specs.Spellings.{Writes};
+ghost use Rattle.play_words.specs.Markets.{market_word};
+ghost use Rattle.cli.specs.Commands.{command_name};
+ghost use Rattle.cli.specs.declared.helps.Command.TheVariants.{Match, Page, Play, Drill, SetUp, Run as Runs};
+ghost use Rattle.cli.specs.declared.faults.WordFault.TheVariants as word;
+ghost use Rattle.cli.specs.Words.{TellsUnknown, TellsFirst, format_word, NoFormat, NoPlansIn, IsOption, NoFile, Input, told, Asks};
+
 use crate::faults::{Fault, WordFault};
 use crate::helps::Command;
 use crate::options::{check_options, split_flag, unknown, value_of};
@@ -40,7 +48,9 @@ pub enum Job<'w> {
 }
 
 // The market of this name.
-fn market_named(heap: Global, name: &str) -> Result<MarketKind, WordFault> {
+fn market_named(heap: Global, name: &str) -> Result<MarketKind, WordFault>
+    ensures { MatchResult result (λ m. market_word m ≡ name.now) (TellsUnknown name.now) }
+{
     match name.parse() {
         Ok(market) => Ok(market),
         Err(_) => unknown(heap, name),
@@ -48,7 +58,9 @@ fn market_named(heap: Global, name: &str) -> Result<MarketKind, WordFault> {
 }
 
 // The format of this name.
-fn format_named(heap: Global, name: &str) -> Result<Format, WordFault> {
+fn format_named(heap: Global, name: &str) -> Result<Format, WordFault>
+    ensures { MatchResult result (λ f. format_word f ≡ name.now) (λ e. TellsUnknown name.now e × NoFormat name.now) }
+{
     match name {
         "text" => Ok(Format::Text),
         "csv" => Ok(Format::Csv),
@@ -62,7 +74,10 @@ fn needed<'w>(words: &[&'w str], name: &str, form: &'static str) -> Result<&'w s
 }
 
 // The name of the file that has the input, where one comes first, and the words after it.
-fn split_input<'w>(words: &'w [&'w str]) -> (Option<&'w str>, &'w [&'w str]) {
+fn split_input<'w>(words: &'w [&'w str]) -> (Option<&'w str>, &'w [&'w str])
+    ensures { Input (map (λ x. x.now) words.now) result.0 }
+    ensures { MatchOption result.0 (result.1.now ≡ words.now) (λ file. words.now ≡ file ∷ result.1.now) }
+{
     match words {
         [file, rest @ ..] if !file.starts_with("--") => (Some(*file), rest),
         _ => (None, words),
@@ -70,7 +85,9 @@ fn split_input<'w>(words: &'w [&'w str]) -> (Option<&'w str>, &'w [&'w str]) {
 }
 
 // The words after `match`.
-fn match_job<'w>(heap: Global, words: &'w [&'w str]) -> Result<Job<'w>, WordFault> {
+fn match_job<'w>(heap: Global, words: &'w [&'w str]) -> Result<Job<'w>, WordFault>
+    ensures { IfOk result (Asks (command_name Match ∷ map (λ x. x.now) words.now)) }
+{
     let (file, words) = split_input(words);
     check_options(heap, words, &["--market"])?;
     let market = match value_of(words, "--market") {
@@ -81,7 +98,9 @@ fn match_job<'w>(heap: Global, words: &'w [&'w str]) -> Result<Job<'w>, WordFaul
 }
 
 // The words after `page`.
-fn page_job<'w>(heap: Global, words: &'w [&'w str]) -> Result<Job<'w>, WordFault> {
+fn page_job<'w>(heap: Global, words: &'w [&'w str]) -> Result<Job<'w>, WordFault>
+    ensures { IfOk result (Asks (command_name Page ∷ map (λ x. x.now) words.now)) }
+{
     let (file, words) = split_input(words);
     check_options(heap, words, &["--sectors"])?;
     let sectors = needed(words, "--sectors", "--sectors N")?;
@@ -92,14 +111,19 @@ fn page_job<'w>(heap: Global, words: &'w [&'w str]) -> Result<Job<'w>, WordFault
 }
 
 // The words after `play`: the names of scripts, and no options.
-fn play_job<'w>(heap: Global, words: &'w [&'w str]) -> Result<Job<'w>, WordFault> {
+fn play_job<'w>(heap: Global, words: &'w [&'w str]) -> Result<Job<'w>, WordFault>
+    ensures { IfOk result (Asks (command_name Play ∷ map (λ x. x.now) words.now)) }
+{
     match words.iter().find(|word| word.starts_with("--")) {
         Some(word) => unknown(heap, word),
         None => Ok(Job::Play { scripts: words }),
     }
 }
 
-fn plans_of(word: &str) -> Result<u32, WordFault> {
+// How many plans the word asks for.
+fn plans_of(word: &str) -> Result<u32, WordFault>
+    ensures { MatchResult result (λ n. Writes word.now n × (1 ≤ n)) (NoPlansIn word.now) }
+{
     match number(word, "--plans")? {
         0 => Err(WordFault::NoPlans),
         plans => Ok(plans),
@@ -107,11 +131,9 @@ fn plans_of(word: &str) -> Result<u32, WordFault> {
 }
 
 // The words after `drill` and the script's name: those of the pile come last.
-fn drill_job<'w>(
-    heap: Global,
-    script: &'w str,
-    words: &'w [&'w str],
-) -> Result<Job<'w>, WordFault> {
+fn drill_job<'w>(heap: Global, script: &'w str, words: &'w [&'w str]) -> Result<Job<'w>, WordFault>
+    ensures { IfOk result (Asks (command_name Drill ∷ (script.now ∷ map (λ x. x.now) words.now))) }
+{
     let (plans, words) = match words {
         ["--plans", value, rest @ ..] => (plans_of(value)?, rest),
         ["--plans"] => return Err(WordFault::NoNumber("--plans")),
@@ -130,7 +152,9 @@ fn drill_job<'w>(
 }
 
 // The words after `setup` and the file's name.
-fn setup_job<'w>(heap: Global, file: &'w str, words: &[&'w str]) -> Result<Job<'w>, WordFault> {
+fn setup_job<'w>(heap: Global, file: &'w str, words: &[&'w str]) -> Result<Job<'w>, WordFault>
+    ensures { IfOk result (Asks (command_name SetUp ∷ (file.now ∷ map (λ x. x.now) words.now))) }
+{
     let (words, force) = split_flag(heap, words, "--force")?;
     check_options(
         heap,
@@ -151,7 +175,9 @@ fn setup_job<'w>(heap: Global, file: &'w str, words: &[&'w str]) -> Result<Job<'
 }
 
 // The words after `run` and the file's name.
-fn run_job<'w>(heap: Global, file: &'w str, words: &[&'w str]) -> Result<Job<'w>, WordFault> {
+fn run_job<'w>(heap: Global, file: &'w str, words: &[&'w str]) -> Result<Job<'w>, WordFault>
+    ensures { IfOk result (Asks (command_name Runs ∷ (file.now ∷ map (λ x. x.now) words.now))) }
+{
     check_options(
         heap,
         words,
@@ -176,7 +202,9 @@ fn run_job<'w>(heap: Global, file: &'w str, words: &[&'w str]) -> Result<Job<'w>
 fn split_file<'w>(
     words: &'w [&'w str],
     what: &'static str,
-) -> Result<(&'w str, &'w [&'w str]), WordFault> {
+) -> Result<(&'w str, &'w [&'w str]), WordFault>
+    ensures { MatchResult result (λ r. (words.now ≡ r.0 ∷ r.1.now) × (IsOption r.0.now → ⊥)) (λ e. (e ≡ word.Missing what.entry) × NoFile (map (λ x. x.now) words.now)) }
+{
     match words {
         [file, rest @ ..] if !file.starts_with("--") => Ok((*file, rest)),
         _ => Err(WordFault::Missing(what)),
@@ -184,7 +212,9 @@ fn split_file<'w>(
 }
 
 // A command that has no words after those that were read.
-fn alone<'w>(heap: Global, words: &[&str], job: Job<'w>) -> Result<Job<'w>, WordFault> {
+fn alone<'w>(heap: Global, words: &[&str], job: Job<'w>) -> Result<Job<'w>, WordFault>
+    ensures { MatchResult result (λ j. (j ≡ job.entry) × (words.now ≡ [])) (TellsFirst (map (λ x. x.now) words.now)) }
+{
     match words {
         [] => Ok(job),
         [word, ..] => unknown(heap, word),
@@ -196,7 +226,9 @@ fn command_job<'w>(
     heap: Global,
     command: Command,
     words: &'w [&'w str],
-) -> Result<Job<'w>, WordFault> {
+) -> Result<Job<'w>, WordFault>
+    ensures { IfOk result (Asks (command_name command ∷ map (λ x. x.now) words.now)) }
+{
     match command {
         Command::Match => match_job(heap, words),
         Command::Page => page_job(heap, words),
@@ -221,7 +253,9 @@ fn command_job<'w>(
 }
 
 // What is wrong with the words, of this command where one was named.
-fn told(why: WordFault, command: Option<Command>) -> Fault {
+fn told(why: WordFault, command: Option<Command>) -> Fault
+    ensures { result ≡ told why command }
+{
     match why {
         WordFault::NoMemory => Fault::Stopped(JobFault::NoMemory),
         why => Fault::Words(why, command),
@@ -229,7 +263,9 @@ fn told(why: WordFault, command: Option<Command>) -> Fault {
 }
 
 /// The job that the words after the program's name ask for.
-pub fn job_of<'w>(heap: Global, words: &'w [&'w str]) -> Result<Job<'w>, Fault> {
+pub fn job_of<'w>(heap: Global, words: &'w [&'w str]) -> Result<Job<'w>, Fault>
+    ensures { IfOk result (Asks (map (λ x. x.now) words.now)) }
+{
     let (name, words) = match words {
         [] => return Err(Fault::Words(WordFault::NoJob, None)),
         ["--help", ..] => return Ok(Job::Help(None)),

@@ -1,9 +1,14 @@
 //! The options of a command: pairs of a name and a value, in any order.
+ghost use Rattle.std.specs.Prelude.{IsErrAnd};
+ghost use Rattle.cli.specs.Words.{TellsUnknown};
+
 use crate::faults::WordFault;
 use std::alloc::Global;
 
 /// A word that may not stand where it does.
-pub(crate) fn unknown<T>(heap: Global, word: &str) -> Result<T, WordFault> {
+pub(crate) fn unknown<T>(heap: Global, word: &str) -> Result<T, WordFault>
+    ensures { IsErrAnd result (TellsUnknown word.now) }
+{
     Err(WordFault::Unknown(String::from_str(heap, word)?))
 }
 
