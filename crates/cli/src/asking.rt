@@ -1,11 +1,12 @@
 //! The job that the words of the command line ask for.
-ghost use Rattle.std.specs.Prelude.{◌≡◌, ◌≤◌, [], ◌∷◌, map, IfOk, MatchOption, MatchResult};
+ghost use Rattle.std.specs.Prelude.{◌≡◌, ◌≤◌, [], ◌∷◌, Some, None, map, IfOk, MatchOption, MatchResult};
 ghost use Rattle.words.specs.Spellings.{Writes};
 ghost use Rattle.play_words.specs.Markets.{market_word};
 ghost use Rattle.cli.specs.Commands.{command_name};
 ghost use Rattle.cli.specs.declared.helps.Command.TheVariants.{Match, Page, Play, Drill, SetUp, Run as Runs};
 ghost use Rattle.cli.specs.declared.faults.WordFault.TheVariants as word;
-ghost use Rattle.cli.specs.Words.{TellsUnknown, TellsFirst, format_word, NoFormat, NoPlansIn, IsOption, NoFile, Input, told, Asks};
+ghost use Rattle.cli.specs.Options.{value_in, TellsUnknown};
+ghost use Rattle.cli.specs.Words.{TellsFirst, format_word, NoFormat, NoPlansIn, IsOption, NoFile, Input, told, Asks, TellsOption, MarketSaid, FormatSaid, SaidMatch, SaidPage, SaidSetting, SaidRunning};
 
 use crate::faults::{Fault, WordFault};
 use crate::helps::Command;
@@ -68,15 +69,37 @@ fn format_named(heap: Global, name: &str) -> Result<Format, WordFault>
     }
 }
 
+// The market that an option names; a book where there is none.
+fn market_or_book(heap: Global, value: Option<&str>) -> Result<MarketKind, WordFault>
+    ensures { IfOk result (MarketSaid value.entry) }
+{
+    match value {
+        None => Ok(MarketKind::Book),
+        Some(name) => market_named(heap, name),
+    }
+}
+
+// The format that an option names; text where there is none.
+fn format_or_text(heap: Global, value: Option<&str>) -> Result<Format, WordFault>
+    ensures { IfOk result (FormatSaid value.entry) }
+{
+    match value {
+        None => Ok(Format::Text),
+        Some(name) => format_named(heap, name),
+    }
+}
+
 // The value of an option that has to be there; `form` names it with its value.
-fn needed<'w>(words: &[&'w str], name: &str, form: &'static str) -> Result<&'w str, WordFault> {
+fn needed<'w>(words: &[&'w str], name: &str, form: &'static str) -> Result<&'w str, WordFault>
+    ensures { MatchResult result (λ v. value_in name.now words.now ≡ Some v) (λ e. (e ≡ word.Missing form.entry) × (value_in name.now words.now ≡ None)) }
+{
     value_of(words, name).ok_or(WordFault::Missing(form))
 }
 
 // The name of the file that has the input, where one comes first, and the words after it.
 fn split_input<'w>(words: &'w [&'w str]) -> (Option<&'w str>, &'w [&'w str])
-    ensures { Input (map (λ x. x.now) words.now) result.0 }
-    ensures { MatchOption result.0 (result.1.now ≡ words.now) (λ file. words.now ≡ file ∷ result.1.now) }
+    ensures input { Input (map (λ x. x.now) words.now) result.0 }
+    ensures rest { MatchOption result.0 (result.1.now ≡ words.now) (λ file. words.now ≡ file ∷ result.1.now) }
 {
     match words {
         [file, rest @ ..] if !file.starts_with("--") => (Some(*file), rest),
@@ -86,20 +109,19 @@ fn split_input<'w>(words: &'w [&'w str]) -> (Option<&'w str>, &'w [&'w str])
 
 // The words after `match`.
 fn match_job<'w>(heap: Global, words: &'w [&'w str]) -> Result<Job<'w>, WordFault>
-    ensures { IfOk result (Asks (command_name Match ∷ map (λ x. x.now) words.now)) }
+    ensures asks { IfOk result (Asks (command_name Match ∷ map (λ x. x.now) words.now)) }
+    ensures said { IfOk result (SaidMatch words.now) }
 {
     let (file, words) = split_input(words);
     check_options(heap, words, &["--market"])?;
-    let market = match value_of(words, "--market") {
-        None => MarketKind::Book,
-        Some(name) => market_named(heap, name)?,
-    };
+    let market = market_or_book(heap, value_of(words, "--market"))?;
     Ok(Job::Match { market, file })
 }
 
 // The words after `page`.
 fn page_job<'w>(heap: Global, words: &'w [&'w str]) -> Result<Job<'w>, WordFault>
-    ensures { IfOk result (Asks (command_name Page ∷ map (λ x. x.now) words.now)) }
+    ensures asks { IfOk result (Asks (command_name Page ∷ map (λ x. x.now) words.now)) }
+    ensures said { IfOk result (SaidPage words.now) }
 {
     let (file, words) = split_input(words);
     check_options(heap, words, &["--sectors"])?;
@@ -112,7 +134,7 @@ fn page_job<'w>(heap: Global, words: &'w [&'w str]) -> Result<Job<'w>, WordFault
 
 // The words after `play`: the names of scripts, and no options.
 fn play_job<'w>(heap: Global, words: &'w [&'w str]) -> Result<Job<'w>, WordFault>
-    ensures { IfOk result (Asks (command_name Play ∷ map (λ x. x.now) words.now)) }
+    ensures { MatchResult result (Asks (command_name Play ∷ map (λ x. x.now) words.now)) TellsOption }
 {
     match words.iter().find(|word| word.starts_with("--")) {
         Some(word) => unknown(heap, word),
@@ -153,7 +175,8 @@ fn drill_job<'w>(heap: Global, script: &'w str, words: &'w [&'w str]) -> Result<
 
 // The words after `setup` and the file's name.
 fn setup_job<'w>(heap: Global, file: &'w str, words: &[&'w str]) -> Result<Job<'w>, WordFault>
-    ensures { IfOk result (Asks (command_name SetUp ∷ (file.now ∷ map (λ x. x.now) words.now))) }
+    ensures asks { IfOk result (Asks (command_name SetUp ∷ (file.now ∷ map (λ x. x.now) words.now))) }
+    ensures said { IfOk result (SaidSetting words.now) }
 {
     let (words, force) = split_flag(heap, words, "--force")?;
     check_options(
@@ -176,7 +199,8 @@ fn setup_job<'w>(heap: Global, file: &'w str, words: &[&'w str]) -> Result<Job<'
 
 // The words after `run` and the file's name.
 fn run_job<'w>(heap: Global, file: &'w str, words: &[&'w str]) -> Result<Job<'w>, WordFault>
-    ensures { IfOk result (Asks (command_name Runs ∷ (file.now ∷ map (λ x. x.now) words.now))) }
+    ensures asks { IfOk result (Asks (command_name Runs ∷ (file.now ∷ map (λ x. x.now) words.now))) }
+    ensures said { IfOk result (SaidRunning words.now) }
 {
     check_options(
         heap,
@@ -185,10 +209,7 @@ fn run_job<'w>(heap: Global, file: &'w str, words: &[&'w str]) -> Result<Job<'w>
     )?;
     let house = needed(words, "--house", "--house H")?;
     let market = needed(words, "--market", "--market book|call")?;
-    let format = match value_of(words, "--format") {
-        None => Format::Text,
-        Some(word) => format_named(heap, word)?,
-    };
+    let format = format_or_text(heap, value_of(words, "--format"))?;
     Ok(Job::Run(Run {
         file,
         mirror: value_of(words, "--mirror"),

@@ -1,8 +1,9 @@
 //! The command line: chooses the job that the arguments ask for, and reports what is wrong.
 //!
 //! Proved: every function is safe and ends, on every input; which word is which command's name; the job is that of the command
-//! that the first word names, with the script or the file that the second one names (specs/Words). Only tested: what the options
-//! ask for (crate `cli_tests`), and what is printed. Trusted: the toolchain and the C library.
+//! that the first word names, with the script or the file that the second one names, and what its options say, but for those of
+//! `drill` (specs/Words, specs/Options). Only tested: the words of a pile, and what is printed. Trusted: the toolchain and the C
+//! library.
 #![tactic(auto)]
 
 pub mod asking;
