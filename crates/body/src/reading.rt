@@ -4,7 +4,7 @@ ghost use Rattle.std.specs.Option.{option_map};
 ghost use Rattle.market.specs.Lists.{across};
 ghost use Rattle.market.specs.Orders.{below};
 ghost use Rattle.market.specs.Resting.{sound};
-ghost use Rattle.market.specs.Means.{state_of};
+ghost use Rattle.market.specs.Means.{state_of, HasRoom};
 ghost use Rattle.body.specs.Layout.{order_at, orders_at};
 ghost use Rattle.body.specs.Loads.{held, reads};
 
@@ -81,7 +81,9 @@ impl Image {
 
     /// Puts the state in place of another, in the memory that is there.
     pub fn restore(&self, resting: &mut RestingOrders)
-        ensures { state_of resting.new ≡ held self.now }
+        requires { HasRoom resting.old }
+        ensures state { state_of resting.new ≡ held self.now }
+        ensures room { HasRoom resting.new }
     {
         resting.last = self.last;
         resting.buys.refill(self.buys.as_slice());

@@ -3,7 +3,7 @@ ghost use Rattle.std.specs.Prelude.{◌≡◌, ◌<◌, ◌≤◌, true, length}
 ghost use Rattle.records.specs.Commands.{in_range};
 ghost use Rattle.market.specs.Resting.{arriving};
 ghost use Rattle.market.specs.Steps.{Taken};
-ghost use Rattle.market.specs.Means.{state_of};
+ghost use Rattle.market.specs.Means.{state_of, HasRoom};
 ghost use Rattle.book.specs.Fairness.{Fair};
 ghost use Rattle.book.specs.Steps.{entered, book_sound, acted, Valid};
 ghost use Rattle.book.specs.Laws as laws;
@@ -29,10 +29,12 @@ fn enter(
     list: &mut [Notice],
 ) -> usize
     requires valid { Valid (state_of resting.old) }
+    requires room { HasRoom resting.old }
     requires more { (state_of resting.old).last < 1000000000000 }
     requires ranged { in_range member price lots ≡ true }
     requires long { 64 ≤ length list.old }
-    ensures { Taken (entered (state_of resting.old) side (arriving (state_of resting.old) member price lots)) list.old (state_of resting.new) list.new result }
+    ensures taken { Taken (entered (state_of resting.old) side (arriving (state_of resting.old) member price lots)) list.old (state_of resting.new) list.new result }
+    ensures room { HasRoom resting.new }
 {
     let order = resting.arrive(member, price, lots);
     // Which side meets which is chosen here; `trade` is one text for both.

@@ -3,7 +3,7 @@ ghost use Rattle.std.specs.Prelude.{◌≡◌, ◌<◌, ◌≤◌, true, length}
 ghost use Rattle.records.specs.Commands.{in_range};
 ghost use Rattle.market.specs.Resting.{sound, arriving};
 ghost use Rattle.market.specs.Steps.{Taken};
-ghost use Rattle.market.specs.Means.{state_of};
+ghost use Rattle.market.specs.Means.{state_of, HasRoom};
 ghost use Rattle.call.specs.Fairness.{Fair};
 ghost use Rattle.call.specs.Steps.{entered, crossed, acted, Valid};
 ghost use Rattle.call.specs.Laws as laws;
@@ -29,9 +29,11 @@ fn enter(
     lots: Lots,
     list: &mut [Notice],
 ) -> usize
+    requires room { HasRoom resting.old }
     requires more { (state_of resting.old).last < 1000000000000 }
     requires long { 64 ≤ length list.old }
-    ensures { Taken (entered (state_of resting.old) side (arriving (state_of resting.old) member price lots)) list.old (state_of resting.new) list.new result }
+    ensures taken { Taken (entered (state_of resting.old) side (arriving (state_of resting.old) member price lots)) list.old (state_of resting.new) list.new result }
+    ensures room { HasRoom resting.new }
 {
     let order = resting.arrive(member, price, lots);
     // Which side it rests on is chosen here; `settle` is one text for both.
@@ -45,9 +47,11 @@ fn enter(
 // The list is lent: nothing allocates on the way of a call.
 fn cross(resting: &mut RestingOrders, list: &mut [Notice]) -> usize
     requires valid { Valid (state_of resting.old) }
+    requires room { HasRoom resting.old }
     requires more { (state_of resting.old).last < 1000000000000 }
     requires long { 64 ≤ length list.old }
-    ensures { Taken (crossed (state_of resting.old)) list.old (state_of resting.new) list.new result }
+    ensures taken { Taken (crossed (state_of resting.old)) list.old (state_of resting.new) list.new result }
+    ensures room { HasRoom resting.new }
 {
     let sides = Sides {
         buys: resting.buys.as_slice(),

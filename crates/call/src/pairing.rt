@@ -1,5 +1,5 @@
 //! The two sides pair, in rank order, at one price.
-ghost use Rattle.std.specs.Prelude.{◌≡◌, ◌+◌, ◌<◌, ◌≤◌, length};
+ghost use Rattle.std.specs.Prelude.{◌≡◌, ◌+◌, ◌<◌, ◌≤◌, length, vec_capacity};
 ghost use Rattle.market.specs.Means.{rows};
 ghost use Rattle.call.specs.Crossing.{pair, Fillable, Paired, PairedAll};
 
@@ -24,6 +24,8 @@ fn pair_first(resting: &mut RestingOrders, price: Price, left: Lots) -> Notice
     requires fillable { Fillable price.0 left.0 (rows resting.old.buys) (rows resting.old.sells) }
     ensures paired { Paired resting.old.last price left.0 (rows resting.old.buys) (rows resting.old.sells) (rows resting.new.buys) (rows resting.new.sells) result }
     ensures last { resting.new.last ≡ resting.old.last }
+    ensures buys_capacity { vec_capacity resting.new.buys.rows ≡ vec_capacity resting.old.buys.rows }
+    ensures sells_capacity { vec_capacity resting.new.sells.rows ≡ vec_capacity resting.old.sells.rows }
 {
     let buy = resting.buys.as_slice()[0];
     let sell = resting.sells.as_slice()[0];
@@ -44,6 +46,8 @@ pub(crate) fn pair_all(
     requires room { length (rows resting.old.buys) + length (rows resting.old.sells) ≤ length list.old }
     ensures paired { PairedAll resting.old.last clearing.price clearing.lots.0 (rows resting.old.buys) (rows resting.old.sells) list.old (rows resting.new.buys) (rows resting.new.sells) list.new result }
     ensures last { resting.new.last ≡ resting.old.last }
+    ensures buys_capacity { vec_capacity resting.new.buys.rows ≡ vec_capacity resting.old.buys.rows }
+    ensures sells_capacity { vec_capacity resting.new.sells.rows ≡ vec_capacity resting.old.sells.rows }
 {
     let mut left = clearing.lots.0;
     let mut n = 0;

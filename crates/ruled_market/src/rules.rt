@@ -6,7 +6,7 @@ ghost use Rattle.records.specs.declared.notices.Notice.{Notice};
 ghost use Rattle.market.specs.Lists.{all};
 ghost use Rattle.market.specs.Resting.{Resting, nothing, sound as orders_sound, passed};
 ghost use Rattle.market.specs.Steps.{Taken, uncounted};
-ghost use Rattle.market.specs.Means.{state_of};
+ghost use Rattle.market.specs.Means.{state_of, HasRoom};
 ghost use Rattle.body.specs.Loads.{held};
 
 use body::image::Image;
@@ -35,10 +35,12 @@ pub trait Rules {
     // The list is lent: nothing allocates on the way of a call.
     fn act(resting: &mut RestingOrders, command: &Command, list: &mut [Notice]) -> usize
         requires sound { sound (state_of resting.old) ≡ true }
+        requires room { HasRoom resting.old }
         requires more { (state_of resting.old).last < 1000000000000 }
         requires good { good command.now ≡ true }
         requires long { 64 ≤ length list.old }
         ensures taken { Taken (acted (state_of resting.old) command.now) list.old (state_of resting.new) list.new result }
+        ensures room { HasRoom resting.new }
         ensures fair { Fair (state_of resting.old) command.now (state_of resting.new) (take result list.new) };
 
     /// Whether a market can be in the state that was read from a body.

@@ -1,5 +1,5 @@
 ghost use Rattle.std.specs.Prelude.{◌≡◌, true};
-ghost use Rattle.market.specs.Means.{state_of};
+ghost use Rattle.market.specs.Means.{state_of, HasRoom};
 
 use crate::rules::Rules;
 use market::resting::RestingOrders;
@@ -11,4 +11,5 @@ pub struct RestingMarket<R: Rules> {
     pub(crate) resting: RestingOrders,
     pub(crate) rules: PhantomData<R>,
     ghost ok: { R.sound (state_of resting) ≡ true },
+    ghost room: { HasRoom resting },
 }

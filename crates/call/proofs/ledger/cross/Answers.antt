@@ -12,4 +12,4 @@ invariant_of-sides c =
 pub pair_all-requires-clause-fillable : goal.pair_all-requires-clause-fillable
 pair_all-requires-clause-fillable c =
     let k = simp (c.as_slice.ensures, c.as_slice-2.ensures) at c.clearing-clearing.ensures in
-    rw (ap (λ h. h.buys) c.pass.ensures, ap (λ h. h.sells) c.pass.ensures) (fillable_at (state_of c.args.resting.now) k c.requires.valid)
+    rw (ap (λ h. h.buys) c.pass.ensures.state, ap (λ h. h.sells) c.pass.ensures.state) (fillable_at (state_of c.args.resting.now) k c.requires.valid)
