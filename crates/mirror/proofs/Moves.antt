@@ -95,6 +95,13 @@ cut_a a b m k c = record { dark = and_left _ _ c.dark; moved = pair_kept a b m b
 cut_b : (a b m n : Meaning) → Moved a (Kept a) m → WasCut b (Kept b) n → WasCut (mirrored a b) (Kept (mirrored a b)) (mirrored m n)
 cut_b a b m n p c = record { dark = and_right _ _ c.dark; moved = pair_kept a b m n p c.moved }
 
+-- a fault of another kind is not that the sector is torn
+pub past_not_torn : (f : DeviceFault) (x : ℕ) → f ≡ OutOfRange x → (s : ℕ) → ◌≡◌ {A = Answer} (Err f) (Err (Torn s)) → ⊥
+past_not_torn f x k s e = let z : ◌≡◌ {A = ℕ} 0 1 = cc in omega arith
+
+pub cut_not_torn : (f : DeviceFault) (x : ℕ) → f ≡ Cut x → (s : ℕ) → ◌≡◌ {A = Answer} (Err f) (Err (Torn s)) → ⊥
+cut_not_torn f x k s e = let z : ◌≡◌ {A = ℕ} 0 1 = cc in omega arith
+
 -- a read that was stopped, the answer of half A, and the answer of half B, where A is torn
 pub read_stopped : (a b : Meaning) (at : ℕ) (old : List ℕ) (f : DeviceFault) → Lawful a → Lawful b → Gate a b at (Err f) → DidRead (mirrored a b) at old (Err f) old (mirrored a b)
 read_stopped a b at old (OutOfRange s) l k h = (h.0, h.1, refl, refl)
