@@ -73,7 +73,7 @@ impl<S: Store> Device for Drive<S> {
     {
         let within = sector < self.store.count();
         self.pass(sector, within, None)?;
-        *buffer = self.store.find(sector).ok_or(DeviceFault::Torn(sector))?;
+        *buffer = *self.store.find(sector).ok_or(DeviceFault::Torn(sector))?;
         Ok(())
     }
 

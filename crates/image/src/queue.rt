@@ -1,5 +1,6 @@
 //! The writes that wait, the oldest first.
 ghost use Rattle.std.specs.Prelude.{◌≡◌, ◌+◌, ◌≤◌, [], ◌∷◌, ◌++◌, IfOk, MatchOption};
+ghost use Rattle.std.specs.Option.{option_map};
 ghost use Rattle.std.specs.VecDeque.{deque_len, deque_capacity};
 ghost use Rattle.image.specs.Waiting.{newest_of, over, staying};
 
@@ -46,14 +47,17 @@ impl Queue {
         self.items.pop_front()
     }
 
+    /// The newest write of a sector, lent.
+    pub fn lend_newest(&self, sector: usize) -> Option<&Pending>
+        ensures { option_map (λ p. p.now) result ≡ newest_of sector self.now.items.items }
+    {
+        self.items.iter().rev().find(|write| write.sector == sector)
+    }
+
     /// The newest write of a sector.
     pub fn newest(&self, sector: usize) -> Option<Pending>
         ensures { result ≡ newest_of sector self.now.items.items }
     {
-        self.items
-            .iter()
-            .rev()
-            .find(|write| write.sector == sector)
-            .copied()
+        self.lend_newest(sector).copied()
     }
 }

@@ -1,5 +1,6 @@
 //! Sectors of an image. A sector or a write past the image is left alone.
 ghost use Rattle.std.specs.Prelude.{◌≡◌, ◌+◌, ◌≤◌, length};
+ghost use Rattle.std.specs.Option.{option_map};
 ghost use Rattle.image.specs.Image.{bytes_of, list_put_at, seen, size_of};
 ghost use Rattle.image.specs.Waiting.{landed, put_down};
 
@@ -28,10 +29,10 @@ fn put_at(image: &mut [u8], at: usize, bytes: &Sector)
     image[at + 1..at + MARKED_SECTOR].copy_from_slice(bytes);
 }
 
-/// The bytes of a sector, or none where it is torn or lies past the image.
+/// The bytes of a sector, lent, or none where it is torn or lies past the image.
 #[tactic(auto, unfolding(crate::specs::Image::reading))]
-pub fn find(image: &[u8], sector: usize) -> Option<Sector>
-    ensures { result ≡ bytes_of (seen image.now sector) }
+pub fn lend(image: &[u8], sector: usize) -> Option<&Sector>
+    ensures { option_map (λ b. b.now) result ≡ bytes_of (seen image.now sector) }
 {
     if sector >= count(image) {
         return None;
@@ -40,10 +41,14 @@ pub fn find(image: &[u8], sector: usize) -> Option<Sector>
     if image[at] != 0 {
         return None;
     }
-    // A copy: `try_from` of the slice answers a Result that is never an error here.
-    let mut bytes = [0; 512];
-    bytes.copy_from_slice(&image[at + 1..at + MARKED_SECTOR]);
-    Some(bytes)
+    <&Sector>::try_from(&image[at + 1..at + MARKED_SECTOR]).ok()
+}
+
+/// The bytes of a sector, or none where it is torn or lies past the image.
+pub fn find(image: &[u8], sector: usize) -> Option<Sector>
+    ensures { result ≡ bytes_of (seen image.now sector) }
+{
+    lend(image, sector).copied()
 }
 
 /// Puts a write down.

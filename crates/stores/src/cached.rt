@@ -27,13 +27,13 @@ impl Store for Cached<'_> {
         sectors::count(self.image)
     }
 
-    fn find(&self, sector: usize) -> Option<Sector> {
+    fn find(&self, sector: usize) -> Option<&Sector> {
         if sector >= self.count() {
             return None;
         }
-        match self.queue.newest(sector) {
-            Some(write) => Some(write.bytes),
-            None => sectors::find(self.image, sector),
+        match self.queue.lend_newest(sector) {
+            Some(write) => Some(write.lend_bytes()),
+            None => sectors::lend(self.image, sector),
         }
     }
 

@@ -27,8 +27,8 @@ impl Store for Plain<'_> {
         sectors::count(self.image)
     }
 
-    fn find(&self, sector: usize) -> Option<Sector> {
-        sectors::find(self.image, sector)
+    fn find(&self, sector: usize) -> Option<&Sector> {
+        sectors::lend(self.image, sector)
     }
 
     fn put(&mut self, write: Pending) {

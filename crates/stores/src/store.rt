@@ -3,7 +3,7 @@ ghost use Rattle.std.specs.Prelude.{◌≡◌, ℕ, List, [], ◌∷◌, ◌++�
 ghost use Rattle.image.specs.Image.{bytes_of, seen, size_of};
 ghost use Rattle.image.specs.Waiting.{over, put_all, put_some, settled, staying};
 ghost use Rattle.image.specs.declared.pending.Pending.{Pending as Write};
-ghost use Rattle.std.specs.Option.{option_to_list};
+ghost use Rattle.std.specs.Option.{option_map, option_to_list};
 
 use device::Sector;
 use image::{Pending, Plan};
@@ -25,9 +25,9 @@ pub trait Store {
     fn count(&self) -> usize
         ensures { result ≡ size_of (image self.now) };
 
-    /// The bytes of a sector, or none where it is torn or lies past the image.
-    fn find(&self, sector: usize) -> Option<Sector>
-        ensures { result ≡ bytes_of (seen (put_all (image self.now) (waiting self.now)) sector) };
+    /// The bytes of a sector, lent, or none where it is torn or lies past the image.
+    fn find(&self, sector: usize) -> Option<&Sector>
+        ensures { option_map (λ b. b.now) result ≡ bytes_of (seen (put_all (image self.now) (waiting self.now)) sector) };
 
     /// Takes a write behind those that wait, and puts the oldest down where more than fit then wait.
     fn put(&mut self, write: Pending)

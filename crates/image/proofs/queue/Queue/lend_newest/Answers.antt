@@ -6,7 +6,7 @@ use Rattle.std.proofs.lemmas.Iterator.Consumers.{YieldsList-from_shown}
 use Rattle.std.proofs.lemmas.Iterator.Search.{find_from_yields_List}
 use Rattle.std.proofs.lemmas.List.{length-reverse, reverse-append}
 use Rattle.image.specs.declared.pending.Pending.{Pending}
-use Rattle.image.proofs.queue.Queue.newest.Goals as goal
+use Rattle.image.proofs.queue.Queue.lend_newest.Goals as goal
 
 -- a queue from behind
 rev_deque : {A : Type 0} {s : _} (xs : List A) → deque_iter_rest (rev_source s) ≡ xs → YieldsList (rev_steps (deque_iter_steps_back {X = A})) (λ y. y.now) s (reverse xs)
@@ -15,6 +15,4 @@ rev_deque {A} {s} xs e = subst (λ k. YieldsList (rev_steps (deque_iter_steps_ba
     (λ u x t p. ap reverse p ∙ reverse-append (deque_iter_rest (rev_source t)) (x.now ∷ [])) s)
 
 pub returns : goal.returns
-returns c =
-    c.copied.ensures
-    ∙ find_from_yields_List (λ (p : Pending). eqb p.sector c.args.sector) _ _ c.find.result c.find.ensures.ran (rev_deque c.args.self.now.items.items (cc)) (λ x b q k. search (rules, tests))
+returns c = find_from_yields_List (λ (p : Pending). eqb p.sector c.args.sector) _ _ c.find.result c.find.ensures.ran (rev_deque c.args.self.now.items.items (cc)) (λ x b q k. search (rules, tests))
