@@ -3,6 +3,7 @@ use Rattle.std.proofs.Common.{◌≡◌, ℕ, ◌+◌, ◌-◌, ◌≤◌, Bool,
 use Rattle.std.proofs.lemmas.List.{length-append, length-set}
 use Rattle.protocol.specs.declared.faults.ExchangeFault.{ExchangeFault}
 use Rattle.protocol.specs.declared.tokens.TicketNumbers.{TicketNumbers}
+use Rattle.protocol.specs.declared.tokens.ReceiptNumbers.{ReceiptNumbers}
 use Rattle.exchange.specs.declared.tokens.Ticket.{Ticket}
 use Rattle.exchange.specs.declared.tokens.Receipt.{Receipt}
 use Rattle.runner.specs.Tokens.{Tokens, held, cleared, returned, most_closing}
@@ -11,7 +12,7 @@ use Rattle.runner.specs.declared.log.Entry.{Entry}
 use Rattle.runner.specs.declared.log.Entry.TheVariants as entry
 use Rattle.runner.specs.declared.script.Call.{Call}
 use Rattle.runner.specs.declared.script.Call.TheVariants as call
-use Rattle.runner.specs.Playing.{writes, replays, made, ticket_in, receipt_in, receipt_read, ticket_back, receipt_back, after_entry, token_of, Answers}
+use Rattle.runner.specs.Playing.{Asked, stages, writes, syncs, delivers, shelves, snapshots, restarts, opens, replays, nothing, with_ticket, with_receipt, asked, made, ticket_in, receipt_in, receipt_read, ticket_back, receipt_back, after_entry, token_of, most_brought, Answers}
 use Rattle.runner.proofs.Places.{back_again}
 
 -- what was taken and comes back, or not
@@ -56,7 +57,20 @@ one_read rs (Ok (Some t)) = rw length-append (omega arith)
 one_read rs (Ok None) = rw length-append (omega arith)
 one_read rs (Err f) = rw length-append (omega arith)
 
-grows : (h : Tokens) (i : ℕ) (e : Entry) → most_closing (after_entry h i e) ≤ most_closing h + 3
+-- how many entries spend what may come of what is asked
+abbrev spends_brought : Asked → ℕ
+spends_brought (stages bs) = 0
+spends_brought writes = 2
+spends_brought (syncs t room) = 1
+spends_brought (delivers r) = 0
+spends_brought (shelves r) = 0
+spends_brought snapshots = 0
+spends_brought restarts = 0
+spends_brought opens = 0
+spends_brought (replays room) = 1
+spends_brought nothing = 0
+
+grows : (h : Tokens) (i : ℕ) (e : Entry) → most_closing (after_entry h i e) ≤ most_closing h + spends_brought (made e)
 grows h i (entry.Stage bs a) = omega arith
 grows h i (entry.Write a) = omega (arith, one_ticket h.tickets a)
 grows h i (entry.Sync t room a) = omega (arith, length_kept h.tickets i (ticket_back a), one_receipt h.receipts a)
@@ -68,9 +82,31 @@ grows h i (entry.Open a) = omega arith
 grows h i (entry.Replay room a) = omega (arith, one_read h.receipts a)
 grows h i entry.Spent = omega arith
 
--- a call brings at most one token of each kind
-pub answers_grow : (h k : Tokens) (c : Call) (e : Entry) → Answers h c e k → most_closing k ≤ most_closing h + 3
-answers_grow h k c e a = subst (λ z. most_closing z ≤ most_closing h + 3) (sym a.tokens) (grows h (token_of c) e)
+by_ticket : (o : Option Ticket) (room : ℕ) → spends_brought (with_ticket o room) ≤ 1
+by_ticket (Some t) room = omega arith
+by_ticket None room = omega arith
+
+by_receipt : (f : ReceiptNumbers → Asked) (o : Option Receipt) → ((r : ReceiptNumbers) → spends_brought (f r) ≡ 0) → spends_brought (with_receipt f o) ≤ 0
+by_receipt f (Some r) z = omega (arith, z r.numbers)
+by_receipt f None z = omega arith
+
+brought : (h : Tokens) (c : Call) → spends_brought (asked h c) ≤ most_brought c
+brought h (call.Stage bs) = omega arith
+brought h call.Write = omega arith
+brought h (call.Sync i room) = by_ticket (held h.tickets i) room
+brought h (call.Deliver i) = by_receipt delivers (held h.receipts i) (λ r. refl)
+brought h (call.Shelve i) = by_receipt shelves (held h.receipts i) (λ r. refl)
+brought h call.Snapshot = omega arith
+brought h call.Restart = omega arith
+brought h call.Open = omega arith
+brought h (call.Replay room) = omega arith
+
+-- a call brings no more tokens than its kind may
+pub answers_grow : (h k : Tokens) (c : Call) (e : Entry) → Answers h c e k → most_closing k ≤ most_closing h + most_brought c
+answers_grow h k c e a =
+    let g : most_closing k ≤ most_closing h + spends_brought (made e) = subst (λ z. most_closing z ≤ most_closing h + spends_brought (made e)) (sym a.tokens) (grows h (token_of c) e) in
+    let q : spends_brought (made e) ≡ spends_brought (asked h c) = ap spends_brought a.call in
+    omega (arith, g, q, brought h c)
 
 pub err_then : {A E : Type 0} {P Q : Type 0} (r : Result A E) → (P → Q) → OnErr r P → OnErr r Q
 err_then (Ok a) f h = tt

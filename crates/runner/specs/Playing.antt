@@ -106,6 +106,18 @@ token_of call.Restart = 0
 token_of call.Open = 0
 token_of (call.Replay room) = 0
 
+-- how many entries spend what a call may bring, at most: two for a ticket, one for a receipt
+abbrev pub most_brought : Call → ℕ
+most_brought (call.Stage bs) = 0
+most_brought call.Write = 2
+most_brought (call.Sync i room) = 1
+most_brought (call.Deliver i) = 0
+most_brought (call.Shelve i) = 0
+most_brought call.Snapshot = 0
+most_brought call.Restart = 0
+most_brought call.Open = 0
+most_brought (call.Replay room) = 1
+
 -- the entry is of this call, with the tokens at hand before and after
 pub record Answers (before : Tokens) (c : Call) (e : Entry) (after : Tokens) : Type 0 where
   pub call : made e ≡ asked before c

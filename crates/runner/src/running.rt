@@ -3,7 +3,7 @@ ghost use Rattle.std.specs.Prelude.{◌≡◌, ◌+◌, ◌*◌, ◌≤◌, [], 
 ghost use Rattle.protocol.specs.Worlds.{rules_of};
 ghost use Rattle.exchange.specs.Views.{view};
 ghost use Rattle.runner.specs.Events.{Told};
-ghost use Rattle.runner.specs.Playing.{made, syncs, spends_ticket, spends_receipt, from_last, spends_all};
+ghost use Rattle.runner.specs.Playing.{made, most_brought, syncs, spends_ticket, spends_receipt, from_last, spends_all};
 ghost use Rattle.runner.specs.Hands.{tokens_of};
 ghost use Rattle.runner.specs.Tokens.{most_closing};
 ghost use Rattle.runner.specs.Outcomes.{Outcome};
@@ -56,15 +56,20 @@ impl From<ExchangeFault> for RunFault {
     }
 }
 
-// Room for one call's entry, and for those that spend the tokens that there may be after it.
-fn make_room(log: &mut Vec<Entry>, hand: &Hand) -> Result<(), AllocError>
+// Room for one call's entry, and for those that spend the tokens that there may be after it, and for no more: the log grows by
+// doubling, and a place too many would double it too early.
+fn make_room(log: &mut Vec<Entry>, hand: &Hand, call: &Call) -> Result<(), AllocError>
     ensures items { log.new.items ≡ log.old.items }
     ensures capacity { vec_capacity log.old ≤ vec_capacity log.new }
-    ensures room { OnOk result (vec_len log.old + most_closing (tokens_of hand.now) + 4 ≤ vec_capacity log.new) }
+    ensures room { OnOk result (vec_len log.old + most_closing (tokens_of hand.now) + most_brought call.now + 1 ≤ vec_capacity log.new) }
 {
     let tickets = hand.tickets.len().saturating_mul(2);
     let closing = tickets.saturating_add(hand.receipts.len());
-    log.reserve(closing.saturating_add(4))
+    log.reserve(
+        closing
+            .saturating_add(call.most_brought())
+            .saturating_add(1),
+    )
 }
 
 // Makes the calls of a script, and notes each with its answer. Also where memory gives out, the log keeps room for what spends
@@ -82,7 +87,7 @@ fn play<M: Market, D: Device>(
     ensures room { vec_len log.new + most_closing (tokens_of hand.new) ≤ vec_capacity log.new }
 {
     for call in script {
-        make_room(log, hand)?;
+        make_room(log, hand, call)?;
         let entry = act(heap, exchange, hand, call)?;
         log.push_reserved(entry);
     }

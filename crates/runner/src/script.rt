@@ -18,3 +18,19 @@ pub enum Call {
     /// Replays, and lends a list for so many notices.
     Replay { room: usize },
 }
+
+impl Call {
+    ghost use Rattle.std.specs.Prelude.{◌≡◌};
+    ghost use Rattle.runner.specs.Playing.{most_brought};
+
+    // How many entries of a log spend what the call may bring, at most: two for a ticket, one for a receipt.
+    pub(crate) fn most_brought(&self) -> usize
+        ensures { result ≡ most_brought self.now }
+    {
+        match self {
+            Call::Write => 2,
+            Call::Sync { .. } | Call::Replay { .. } => 1,
+            _ => 0,
+        }
+    }
+}
