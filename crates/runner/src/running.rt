@@ -1,5 +1,5 @@
 //! A script, run.
-ghost use Rattle.std.specs.Prelude.{◌≡◌, ◌+◌, ◌*◌, ◌≤◌, [], ◌++◌, length, vec_len, vec_capacity, MatchResult, OnOk};
+ghost use Rattle.std.specs.Prelude.{◌≡◌, ◌+◌, ◌*◌, ◌≤◌, min, [], ◌++◌, length, vec_len, vec_capacity, MatchResult, OnOk};
 ghost use Rattle.protocol.specs.Worlds.{rules_of};
 ghost use Rattle.exchange.specs.Views.{view};
 ghost use Rattle.runner.specs.Events.{Told};
@@ -56,20 +56,25 @@ impl From<ExchangeFault> for RunFault {
     }
 }
 
-// Room for one call's entry, and for those that spend the tokens that there may be after it, and for no more: the log grows by
+// How many entries a call may need: its own, and those that spend the tokens that there may be after it. No more: the log grows by
 // doubling, and a place too many would double it too early.
+fn places_for(hand: &Hand, call: &Call) -> usize
+    ensures { result ≡ min (most_closing (tokens_of hand.now) + most_brought call.now + 1) 18446744073709551615 }
+{
+    let tickets = hand.tickets.len().saturating_mul(2);
+    let closing = tickets.saturating_add(hand.receipts.len());
+    closing
+        .saturating_add(call.most_brought())
+        .saturating_add(1)
+}
+
+// Room for the entries that a call may need.
 fn make_room(log: &mut Vec<Entry>, hand: &Hand, call: &Call) -> Result<(), AllocError>
     ensures items { log.new.items ≡ log.old.items }
     ensures capacity { vec_capacity log.old ≤ vec_capacity log.new }
     ensures room { OnOk result (vec_len log.old + most_closing (tokens_of hand.now) + most_brought call.now + 1 ≤ vec_capacity log.new) }
 {
-    let tickets = hand.tickets.len().saturating_mul(2);
-    let closing = tickets.saturating_add(hand.receipts.len());
-    log.reserve(
-        closing
-            .saturating_add(call.most_brought())
-            .saturating_add(1),
-    )
+    log.reserve(places_for(hand, call))
 }
 
 // Makes the calls of a script, and notes each with its answer. Also where memory gives out, the log keeps room for what spends
